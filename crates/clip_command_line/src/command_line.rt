@@ -4,8 +4,7 @@ ghost use Rattle.clip_command_line.specs.CommandLine.{HasFewWorkers, digit_of, w
 ghost use Rattle.clip_command_line.specs.CommandLine.{run_mode, mode_of, ending_of};
 
 use crate::mode::Mode;
-use clip_protocol::Form;
-use clip_stream::{MOST_WORKERS, RunFault};
+use clip_stream::{Form, MOST_WORKERS, RunFault};
 
 /// How many workers match where the words name no number.
 pub const USUAL_WORKERS: u32 = 4;

@@ -3,7 +3,7 @@ use Rattle.std.proofs.Common.{◌≡◌, ℕ, List, Result, Ok, Err, OnOk, ap₂
 use Rattle.clip_model.specs.History.{History}
 use Rattle.clip_meaning.specs.Article.{ArticleValue}
 use Rattle.clip_protocol.specs.LineMeaning.{Means, matching}
-use Rattle.clip_protocol.specs.declared.form.Form.{Form}
+use Rattle.clip_stream.specs.declared.form.Form.{Form}
 use Rattle.clip_protocol.specs.Reply.{reply}
 use Rattle.clip_front.specs.Outcome.{names_in}
 use Rattle.clip_registry.specs.Plan.{AreFew}

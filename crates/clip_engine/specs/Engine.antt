@@ -14,8 +14,8 @@ use Rattle.clip_registry.specs.RegistryState.{beginning, state_after}
 use Rattle.clip_registry.specs.Steps.Turns.{TakesTurns}
 use Rattle.clip_protocol.specs.LineMeaning.{Meaning, Means, after, purging, IsTakenAs, IsRefusedFor}
 use Rattle.clip_protocol.specs.Reply.{reply}
-use Rattle.clip_protocol.specs.declared.form.Form.{Form}
-use Rattle.clip_protocol.specs.declared.form.Form.TheVariants.{Plain, WithHits}
+use Rattle.clip_stream.specs.declared.form.Form.{Form}
+use Rattle.clip_stream.specs.declared.form.Form.TheVariants.{Plain, WithHits}
 use Rattle.clip_protocol.specs.declared.refusal.Unread.{Unread}
 use Rattle.clip_protocol.specs.declared.refusal.Unread.TheVariants as unread
 use Rattle.clip_protocol.specs.declared.refusal.Refusal.TheVariants as reason

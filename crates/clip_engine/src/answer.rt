@@ -17,9 +17,10 @@ use clip_front::{Books, Settings, Step, deliver_found, take_line};
 use clip_listen::Audience;
 use clip_match::entries_due;
 use clip_meaning::Article;
-use clip_protocol::{Form, Found, articles_of};
+use clip_protocol::{Found, articles_of};
 use clip_registry::View;
 use clip_run::{OwnRegistrar, hits_found};
+use clip_stream::Form;
 use clip_words::{NoMemory, WordPool};
 use std::alloc::Global;
 

@@ -19,23 +19,23 @@ use Rattle.clip_explain.specs.Places.{BeginClauses}
 use Rattle.clip_explain.specs.Steps.Fronts.{may_end, after, after_item, after_open, start, after_front, after_all}
 use Rattle.clip_explain.specs.declared.fronts.Last.{Last}
 use Rattle.clip_explain.specs.declared.fronts.Last.TheVariants.{Joint, Sign, Field, Word, Clause, Star, StarColon}
-use Rattle.clip_explain.specs.declared.fronts.Front.{Front}
+use Rattle.clip_explain.specs.declared.fronts.ClausesBegun.{ClausesBegun}
 
 -- ---- tokens that end what is begun
 
-abbrev front : ℕ → Last → Front
+abbrev front : ℕ → Last → ClausesBegun
 front depth last = record { depth = depth; last = last }
 
 abbrev is_zero : ℕ → Bool
 is_zero zero = true
 is_zero (suc n) = false
 
-abbrev then : Option Front → (Front → Bool) → Bool
+abbrev then : Option ClausesBegun → (ClausesBegun → Bool) → Bool
 then None k = false
 then (Some f) k = k f
 
 -- clauses are ended by these tokens
-abbrev goes : List Token → Front → Bool
+abbrev goes : List Token → ClausesBegun → Bool
 goes [] f = may_end f.last && is_zero f.depth
 goes (t ∷ ts) f = then (after f t) (goes ts)
 
@@ -202,12 +202,12 @@ reached : (earlier others : List Token)
 reached [] others = refl
 reached (t ∷ earlier) others = reached earlier (t ∷ others) ∙ step (after_all earlier)
   where
-    step : (o : Option Front) → then o (goes (t ∷ others)) ≡ then (after_front o t) (goes others)
+    step : (o : Option ClausesBegun) → then o (goes (t ∷ others)) ≡ then (after_front o t) (goes others)
     step None = refl
     step (Some f) = refl
 
 -- tokens after which something may follow are the beginning of clauses
-pub begun : (earlier : List Token) (f : Front) → after_all earlier ≡ Some f → BeginClauses (reverse earlier)
+pub begun : (earlier : List Token) (f : ClausesBegun) → after_all earlier ≡ Some f → BeginClauses (reverse earlier)
 begun earlier f e =
     let others = ending f.depth f.last in
     let ok : accepts (reverse_aux earlier others) zero false Fresh ≡ true =

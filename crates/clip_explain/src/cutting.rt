@@ -52,7 +52,7 @@ fn before<'a>(text: &'a [char], rest: &[char]) -> &'a [char]
 }
 
 /// The lexemes of a text's characters that say tokens, each with its place, as far as there are any.
-fn cut(alloc: Global, text: &[char]) -> Result<Lexed, NoMemory>
+fn cut_lexemes(alloc: Global, text: &[char]) -> Result<Lexed, NoMemory>
     requires { length (encode_utf8_all text.now) < 2 ^ 63 }
     ensures { IfOk result (λ lexed. IsCutUp text.now (map placed_of lexed.lexemes.items) lexed.end) }
 {
@@ -81,5 +81,5 @@ pub fn lexemes(alloc: Global, text: &str) -> Result<Lexed, NoMemory>
     ensures apart { IfOk result (λ lexed. StandApart text.now 0 (map placed_of lexed.lexemes.items)) }
 {
     let chars: Vec<char> = text.chars().collect(alloc)?;
-    cut(alloc, &chars)
+    cut_lexemes(alloc, &chars)
 }

@@ -27,7 +27,7 @@ pub enum Last {
 
 /// Tokens that are the beginning of clauses.
 #[derive(Clone, Copy)]
-pub struct Front {
+pub struct ClausesBegun {
     /// How many parentheses are open.
     pub depth: usize,
     /// What stands last.
@@ -57,26 +57,26 @@ impl Last {
     }
 }
 
-impl Front {
+impl ClausesBegun {
     /// Before the first token. Constant time.
-    pub fn start() -> Front
+    pub fn start() -> ClausesBegun
         ensures { result ≡ start }
     {
-        Front {
+        ClausesBegun {
             depth: 0,
             last: Last::Joint,
         }
     }
 
     /// These tokens, with what stands last after one more.
-    fn with_last(self, last: Last) -> Front
+    fn with_last(self, last: Last) -> ClausesBegun
         ensures { result ≡ with_last self last }
     {
-        Front { last, ..self }
+        ClausesBegun { last, ..self }
     }
 
     /// After a plain word, which is an item where a field stands before it, and else one or the name of a field.
-    fn after_word(self) -> Option<Front>
+    fn after_word(self) -> Option<ClausesBegun>
         ensures { result ≡ after_word self self.last }
     {
         match self.last {
@@ -87,7 +87,7 @@ impl Front {
     }
 
     /// After a colon, of a field or of `*:*`.
-    fn after_colon(self) -> Option<Front>
+    fn after_colon(self) -> Option<ClausesBegun>
         ensures { result ≡ after_colon self self.last }
     {
         match self.last {
@@ -98,7 +98,7 @@ impl Front {
     }
 
     /// After a star, the first or the last of `*:*`, which takes no field.
-    fn after_star(self) -> Option<Front>
+    fn after_star(self) -> Option<ClausesBegun>
         ensures { result ≡ after_star self self.last }
     {
         match self.last {
@@ -109,25 +109,25 @@ impl Front {
     }
 
     /// After a parenthesis that opens a group.
-    fn after_open(self) -> Option<Front>
+    fn after_open(self) -> Option<ClausesBegun>
         requires { self.depth < usize.MAX }
         ensures { result ≡ after_open self }
     {
         if self.last.is_in_star() {
             return None;
         }
-        Some(Front {
+        Some(ClausesBegun {
             depth: self.depth + 1,
             last: Last::Joint,
         })
     }
 
     /// After a parenthesis that closes a group.
-    fn after_close(self) -> Option<Front>
+    fn after_close(self) -> Option<ClausesBegun>
         ensures { result ≡ after_close self }
     {
         if self.depth > 0 && self.last.may_end() {
-            Some(Front {
+            Some(ClausesBegun {
                 depth: self.depth - 1,
                 last: Last::Clause,
             })
@@ -137,7 +137,7 @@ impl Front {
     }
 
     /// After one token more, or `None` where the tokens are then no beginning of clauses. Constant time.
-    pub fn after(self, token: &Token) -> Option<Front>
+    pub fn after(self, token: &Token) -> Option<ClausesBegun>
         requires { self.depth < usize.MAX }
         ensures after { result ≡ after self (token_of token.now) }
         ensures within { IfSome result (λ next. next.depth ≤ self.depth + 1) }

@@ -15,4 +15,4 @@ pub use certain::{is_always, is_never};
 pub use cutting::{Lexed, Lexeme, lexemes};
 pub use explaining::{Explained, Explanation, Refusal, explain};
 pub use laws::{always_law, never_law, tried_on_all_law};
-pub use spelling::spelled;
+pub use spelling::spell;

@@ -9,7 +9,7 @@ ghost use Rattle.clip_explain.specs.Lexemes.{placed_of};
 ghost use Rattle.clip_explain.specs.Places.{FirstOf, IsLeftOut, IsOutOfPlace, HasNoWords, IsPlace, tokens_in};
 
 use crate::cutting::{Lexeme, lexemes};
-use crate::fronts::Front;
+use crate::fronts::ClausesBegun;
 use clip_grammar::limits::MOST_TEXT_BYTES;
 use clip_syntax::{QueryFault, Token, item_text};
 use clip_words::{NoMemory, words};
@@ -88,7 +88,7 @@ fn structure_place(lexemes: &[Lexeme], end: usize) -> usize
     ensures { FirstOf IsOutOfPlace [] (map placed_of lexemes.now) end result }
 {
     let mut rest = lexemes;
-    let mut front = Front::start();
+    let mut front = ClausesBegun::start();
     while let Some((lexeme, later)) = rest.split_first() {
         let Some(next) = front.after(&lexeme.token) else {
             return lexeme.start;

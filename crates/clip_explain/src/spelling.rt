@@ -218,7 +218,7 @@ fn push_query(spelled: &mut String, query: &Query, outermost: bool) -> Result<()
 ///
 /// `NoMemory` where an allocation failed. The cost is linear in the bytes of the query's texts and in its nodes. It
 /// recurses as deep as the query's groups nest.
-pub fn spelled(alloc: Global, query: &Query) -> Result<String, NoMemory>
+pub fn spell(alloc: Global, query: &Query) -> Result<String, NoMemory>
     ensures { IfOk result (λ text. string_bytes text ≡ spelling (tree_of query.now)) }
 {
     let mut spelled = String::new(alloc);

@@ -7,7 +7,7 @@ use crate::refused::refused_says;
 use crate::remarked::level_word;
 use crate::sentence::sentence;
 use clip_cause::Place;
-use clip_explain::{Explained, Explanation, explain, spelled};
+use clip_explain::{Explained, Explanation, explain, spell};
 use clip_protocol::Refusal;
 use clip_remarks::{Level, Remark, remarks};
 use clip_where::{WordSpan, word_spans};
@@ -17,14 +17,14 @@ use std::str;
 use unicode_width::UnicodeWidthStr;
 
 /// The character as it is shown: a blank for each control character.
-fn shown(c: char) -> char {
+fn blank_control(c: char) -> char {
     if c.is_control() { ' ' } else { c }
 }
 
 /// Puts a text behind what is there as it is shown: on one line.
 fn push_visible(out: &mut String, text: &str) -> Result<(), NoMemory> {
     for c in text.chars() {
-        out.push(shown(c))?;
+        out.push(blank_control(c))?;
     }
     Ok(out.push('\n')?)
 }
@@ -80,7 +80,7 @@ fn push_remarks(out: &mut String, alloc: Global, text: &str) -> Result<(), NoMem
 
 /// Puts behind what is there how a query is read.
 fn push_read(out: &mut String, alloc: Global, told: &Explanation) -> Result<(), NoMemory> {
-    push_told(out, "reads as", spelled(alloc, &told.query)?)?;
+    push_told(out, "reads as", spell(alloc, &told.query)?)?;
     push_told(out, "means", sentence(alloc, told)?)
 }
 

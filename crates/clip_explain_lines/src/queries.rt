@@ -18,8 +18,8 @@ use crate::remarked::write_remarks;
 use crate::sentence::sentence;
 use crate::tree::write_tree;
 use crate::words::write_words;
-use crate::writing::{Member, begun, ended, write_members, write_text};
-use clip_explain::{Explained, Explanation, explain, spelled};
+use crate::writing::{Member, begin_object, end_object, write_members, write_text};
+use clip_explain::{Explained, Explanation, explain, spell};
 use clip_grammar::query::Query;
 use clip_remarks::{Remark, remarks};
 use clip_words::NoMemory;
@@ -47,7 +47,7 @@ fn write_spelling(out: &mut Writer, alloc: Global, query: &Query) -> Result<(), 
     ensures { Appends result out.old out.new
         (key (codes "reads") ∷ token.string (spelling (tree_of query.now)) ∷ []) }
 {
-    let reads = spelled(alloc, query)?;
+    let reads = spell(alloc, query)?;
     write_text(out, "reads", &reads)
 }
 
@@ -116,11 +116,11 @@ fn read_text(
 ) -> Result<Vec<u8>, NoMemory>
     ensures { IfOk result (λ text. text.items ≡ compact_text (query_data told.now remarks.now says.now)) }
 {
-    let mut out = begun(alloc)?;
+    let mut out = begin_object(alloc)?;
     write_first(&mut out, told)?;
     write_middle(&mut out, alloc, told, remarks, says)?;
     write_last(&mut out, told)?;
-    ended(out)
+    end_object(out)
 }
 
 /// What a query's text means, as compact JSON without a line feed. Of a text that is a query: how it is read, in signs,

@@ -8,7 +8,7 @@ ghost use Rattle.clip_protocol.specs.Steps.Printing.{Appends, data_tokens};
 ghost use Rattle.clip_explain_lines.specs.SpansData.{span_data, spans_data, words_data};
 ghost use Rattle.clip_explain_lines.specs.Steps.Forward.{IsForward};
 
-use crate::writing::{Member, begun, ended, write_object};
+use crate::writing::{Member, begin_object, end_object, write_object};
 use clip_where::{WordSpan, word_spans};
 use clip_words::{NoMemory, fold};
 use json::Writer;
@@ -56,10 +56,10 @@ fn spans_text(alloc: Global, text: &str, spans: &[WordSpan]) -> Result<Vec<u8>, 
     requires forward { All IsForward spans.now }
     ensures { IfOk result (λ answer. answer.items ≡ compact_text (spans_data text.now spans.now)) }
 {
-    let mut out = begun(alloc)?;
+    let mut out = begin_object(alloc)?;
     out.key("words")?;
     write_spans(&mut out, alloc, text, spans)?;
-    ended(out)
+    end_object(out)
 }
 
 /// The words of a text as the engine cuts and folds them, each with the bytes between which it stands, as compact JSON

@@ -25,7 +25,7 @@ pub enum Member<'v> {
 }
 
 /// A text in which an object has begun.
-pub fn begun(alloc: Global) -> Result<Writer, NoMemory>
+pub fn begin_object(alloc: Global) -> Result<Writer, NoMemory>
     ensures before { IfOk result (λ out. out.before ≡ []) }
     ensures tokens { IfOk result (λ out. out.tokens ≡ begin_object ∷ []) }
 {
@@ -35,7 +35,7 @@ pub fn begun(alloc: Global) -> Result<Writer, NoMemory>
 }
 
 /// The text of a value, of which all but the end of its object is written: compact JSON.
-pub fn ended(mut out: Writer) -> Result<Vec<u8>, NoMemory>
+pub fn end_object(mut out: Writer) -> Result<Vec<u8>, NoMemory>
     ensures { (d : Data) → out.before ≡ [] → out.tokens ++ end_object ∷ [] ≡ data_tokens d
         → IfOk result (λ text. text.items ≡ compact_text d) }
 {
@@ -97,7 +97,7 @@ pub fn write_object(out: &mut Writer, members: &[Member<'_>]) -> Result<(), NoMe
 pub fn object_text(alloc: Global, members: &[Member<'_>]) -> Result<Vec<u8>, NoMemory>
     ensures { IfOk result (λ text. text.items ≡ compact_text (object_of (map member_of members.now))) }
 {
-    let mut out = begun(alloc)?;
+    let mut out = begin_object(alloc)?;
     write_members(&mut out, members)?;
-    ended(out)
+    end_object(out)
 }

@@ -15,8 +15,8 @@ use Rattle.clip_extract.specs.Keys.{KeyValue}
 use Rattle.clip_extract.specs.Extraction.{Extracted, unnarrowed, heavier, together, heaviest, musts, shoulds}
 use Rattle.clip_extract.specs.Extraction.{group_extract, extract, extracts}
 use Rattle.clip_extract.specs.Steps.Groups.{group_with, group_from, next_found, counts, kept}
-use Rattle.clip_extract.specs.declared.extraction.Found.{Found}
-use Rattle.clip_extract.specs.declared.extraction.Found.TheVariants.{Nothing, Optional, Required}
+use Rattle.clip_extract.specs.declared.extraction.FoundInGroup.{FoundInGroup}
+use Rattle.clip_extract.specs.declared.extraction.FoundInGroup.TheVariants.{Nothing, Optional, Required}
 
 -- ---- clause by clause
 
@@ -26,8 +26,9 @@ unfolding group_with group_extract
 group_start ks cs = refl
 
 -- a clause that does not count
-pub skipped : (found : Found) (occur : Occur) (ks : List KeyValue) (e : Extracted) (cs : List (Occur × Extracted))
-    → counts found occur ≡ false → group_from found ks ((occur, e) ∷ cs) ≡ group_from found ks cs
+pub skipped : (found : FoundInGroup) (occur : Occur) (ks : List KeyValue) (e : Extracted)
+    (cs : List (Occur × Extracted)) → counts found occur ≡ false
+    → group_from found ks ((occur, e) ∷ cs) ≡ group_from found ks cs
 unfolding group_with
 skipped found Must ks e cs not_so = absurd (false≢true (sym not_so))
 skipped Nothing Should ks e cs not_so = absurd (false≢true (sym not_so))
@@ -54,7 +55,7 @@ heavier_kept best w ks ls = at (ltb best w) refl
         ap (λ n. with_weight ks n) m
 
 -- a clause that counts
-pub counted : (found : Found) (occur : Occur) (w : ℕ) (ks ls : List KeyValue) (cs : List (Occur × Extracted))
+pub counted : (found : FoundInGroup) (occur : Occur) (w : ℕ) (ks ls : List KeyValue) (cs : List (Occur × Extracted))
     → counts found occur ≡ true → (found ≡ Nothing → ks ≡ [])
     → group_from found ks ((occur, record { keys = ls; weight = w }) ∷ cs)
     ≡ group_from (next_found found occur w) (kept found occur w ks ls) cs
@@ -71,7 +72,7 @@ counted (Optional least) MustNot w ks ls cs so empty = absurd (false≢true so)
 counted (Required best) MustNot w ks ls cs so empty = absurd (false≢true so)
 
 -- something stands then
-pub something : (found : Found) (occur : Occur) (w : ℕ) → counts found occur ≡ true
+pub something : (found : FoundInGroup) (occur : Occur) (w : ℕ) → counts found occur ≡ true
     → next_found found occur w ≡ Nothing → ⊥
 something Nothing Must w so e = cc
 something Nothing Should w so e = cc
@@ -95,8 +96,8 @@ heavier_alike a b x e = heavier_weight a x ∙ ap (λ w. cond (ltb w x.weight) x
     heavier_weight : (a x : Extracted) → (heavier a x).weight ≡ cond (ltb a.weight x.weight) x.weight a.weight
     heavier_weight a x = picked (ltb a.weight x.weight) a x
 
-pub alike : (found : Found) (ks ls : List KeyValue) (cs : List (Occur × Extracted)) → (group_from found ks cs).weight
-    ≡ (group_from found ls cs).weight
+pub alike : (found : FoundInGroup) (ks ls : List KeyValue) (cs : List (Occur × Extracted))
+    → (group_from found ks cs).weight ≡ (group_from found ls cs).weight
 unfolding group_with
 alike Nothing ks ls cs = refl
 alike (Required w) ks ls cs =
@@ -116,7 +117,7 @@ alike (Optional w) ks ls cs =
     picked (Some x) a b e = refl
 
 -- the weight with one clause more, whatever the keys
-pub next_weight : (found : Found) (occur : Occur) (e : Extracted) (ks ls : List KeyValue)
+pub next_weight : (found : FoundInGroup) (occur : Occur) (e : Extracted) (ks ls : List KeyValue)
     (cs : List (Occur × Extracted)) → counts found occur ≡ true → (group_from found ks ((occur, e) ∷ cs)).weight
     ≡ (group_from (next_found found occur e.weight) ls cs).weight
 next_weight found occur e ks ls cs so =
@@ -146,7 +147,7 @@ next_extract cs i c lt is =
     ∙ ap (λ j. (c.0, extract (tree_of c.1)) ∷ extracts_of (drop j cs)) (sym (add-one i))
 
 -- a turn: `ys` are the keys with those of the clause's child, `zs` those that are kept
-pub turn : (found : Found) (occur : Occur) (w : ℕ) (xs ys zs : List KeyValue) (start middle : ℕ) (e : Extracted)
+pub turn : (found : FoundInGroup) (occur : Occur) (w : ℕ) (xs ys zs : List KeyValue) (start middle : ℕ) (e : Extracted)
     (cs : List (Occur × Extracted))
     → counts found occur ≡ true → (found ≡ Nothing → length xs ≡ start) → length xs ≡ middle → ys ≡ xs ++ e.keys
     → w ≡ e.weight
@@ -163,7 +164,7 @@ turn found occur w xs ys zs start middle e cs so empty long added weight is =
 
 -- ---- the end
 
-pub group_end : (found : Found) (ks : List KeyValue) (cs : List (Occur × Query)) (i : ℕ) (e : Extracted)
+pub group_end : (found : FoundInGroup) (ks : List KeyValue) (cs : List (Occur × Query)) (i : ℕ) (e : Extracted)
     → length cs ≤ i → group_from found ks (extracts_of (drop i cs)) ≡ e → e ≡ group_from found ks []
 group_end found ks cs i e le is = sym is ∙ ap (λ xs. group_from found ks (extracts_of xs)) (drop_all i cs le)
 
@@ -171,7 +172,8 @@ pub nothing_found : (ks : List KeyValue) → group_from Nothing ks [] ≡ unnarr
 unfolding group_with
 nothing_found ks = refl
 
-pub keys_found : (found : Found) (ks : List KeyValue) → (found ≡ Nothing → ⊥) → (group_from found ks []).keys ≡ ks
+pub keys_found : (found : FoundInGroup) (ks : List KeyValue) → (found ≡ Nothing → ⊥)
+    → (group_from found ks []).keys ≡ ks
 unfolding group_with
 keys_found Nothing ks some = absurd (some refl)
 keys_found (Optional w) ks some = refl

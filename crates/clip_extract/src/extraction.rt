@@ -14,7 +14,7 @@ ghost use Rattle.clip_extract.specs.Steps.Leaves.{Adds, IsNoGroup, word_found, l
 
 use crate::front::key_front;
 use crate::key::Key;
-use crate::sorting::sorted;
+use crate::sorting::sort_keys;
 use clip_grammar::query::{Occur, Query};
 use clip_words::NoMemory;
 use std::alloc::Global;
@@ -23,7 +23,7 @@ use std::sync::ArcStr;
 /// What was found among a group's clauses so far: nothing, Should children with their least weight, or a Must child
 /// with its weight.
 #[derive(Clone, Copy)]
-enum Found {
+enum FoundInGroup {
     Nothing,
     Optional(u64),
     Required(u64),
@@ -55,37 +55,37 @@ fn heaviest_word(words: &[ArcStr]) -> Option<(&ArcStr, u64)>
 }
 
 /// Whether a clause more can change what was found.
-fn counts(found: Found, occur: Occur) -> bool
+fn counts(found: FoundInGroup, occur: Occur) -> bool
     ensures { result ≡ counts found occur }
 {
     match (found, occur) {
         (_, Occur::Must) => true,
-        (_, Occur::MustNot) | (Found::Required(_), Occur::Should) => false,
+        (_, Occur::MustNot) | (FoundInGroup::Required(_), Occur::Should) => false,
         _ => true,
     }
 }
 
 /// What is found with one clause more, whose child has this weight.
-fn next_found(found: Found, occur: Occur, weight: u64) -> Found
+fn next_found(found: FoundInGroup, occur: Occur, weight: u64) -> FoundInGroup
     ensures { result ≡ next_found found occur weight }
 {
     match (found, occur) {
-        (Found::Required(best), Occur::Must) => Found::Required(best.max(weight)),
-        (_, Occur::Must) => Found::Required(weight),
-        (Found::Optional(least), Occur::Should) => Found::Optional(least.min(weight)),
-        (Found::Nothing, Occur::Should) => Found::Optional(weight),
+        (FoundInGroup::Required(best), Occur::Must) => FoundInGroup::Required(best.max(weight)),
+        (_, Occur::Must) => FoundInGroup::Required(weight),
+        (FoundInGroup::Optional(least), Occur::Should) => FoundInGroup::Optional(least.min(weight)),
+        (FoundInGroup::Nothing, Occur::Should) => FoundInGroup::Optional(weight),
         _ => found,
     }
 }
 
 /// The weight of what was found.
 #[tactic(auto, unfolding(crate::specs::Steps::Groups::group_with))]
-fn weight_found(found: Found) -> u64
+fn weight_found(found: FoundInGroup) -> u64
     ensures { (keys : List KeyValue) → (group_from found keys []).weight ≡ result }
 {
     match found {
-        Found::Nothing => 0,
-        Found::Optional(weight) | Found::Required(weight) => weight,
+        FoundInGroup::Nothing => 0,
+        FoundInGroup::Optional(weight) | FoundInGroup::Required(weight) => weight,
     }
 }
 
@@ -139,7 +139,7 @@ pub fn weight(query: &Query) -> u64
 {
     match query {
         Query::Group(clauses) => {
-            let mut found = Found::Nothing;
+            let mut found = FoundInGroup::Nothing;
             for (occur, child) in clauses {
                 if !counts(found, *occur) {
                     continue;
@@ -162,18 +162,25 @@ fn remove(keys: &mut Vec<Key>, start: usize, end: usize)
 }
 
 /// Whether a Must child of this weight takes the place of what was found.
-fn outweighs(found: Found, weight: u64) -> bool
+fn outweighs(found: FoundInGroup, weight: u64) -> bool
     ensures { result ≡ outweighs found weight }
 {
     match found {
-        Found::Required(best) => best < weight,
+        FoundInGroup::Required(best) => best < weight,
         _ => true,
     }
 }
 
 /// Keeps of a group's keys, which begin at `start`, those that count with one clause more, whose child's begin at
 /// `middle`.
-fn keep(found: Found, occur: Occur, weight: u64, keys: &mut Vec<Key>, start: usize, middle: usize)
+fn keep(
+    found: FoundInGroup,
+    occur: Occur,
+    weight: u64,
+    keys: &mut Vec<Key>,
+    start: usize,
+    middle: usize,
+)
     requires low { start ≤ middle }
     requires high { middle ≤ vec_len keys.old }
     ensures front { take start (map key_of keys.new.items) ≡ take start (map key_of keys.old.items) }
@@ -254,7 +261,7 @@ pub(crate) fn add_keys(alloc: Global, query: &Query, keys: &mut Vec<Key>) -> Res
     match query {
         Query::Group(clauses) => {
             let start = keys.len();
-            let mut found = Found::Nothing;
+            let mut found = FoundInGroup::Nothing;
             for (occur, child) in clauses {
                 if !counts(found, *occur) {
                     continue;
@@ -265,7 +272,7 @@ pub(crate) fn add_keys(alloc: Global, query: &Query, keys: &mut Vec<Key>) -> Res
                 found = next_found(found, *occur, weight);
             }
             match found {
-                Found::Nothing => push_any(keys),
+                FoundInGroup::Nothing => push_any(keys),
                 _ => Ok(weight_found(found)),
             }
         }
@@ -288,5 +295,5 @@ pub fn keys(alloc: Global, query: &Query) -> Result<Vec<Key>, NoMemory>
 {
     let mut found = Vec::new(alloc);
     add_keys(alloc, query, &mut found)?;
-    sorted(found)
+    sort_keys(found)
 }

@@ -8,7 +8,7 @@ ghost use Rattle.clip_extract.specs.Steps.Seconds.{heavier_of, next_ranked, rank
 
 use crate::extraction::add_keys;
 use crate::key::Key;
-use crate::sorting::sorted;
+use crate::sorting::sort_keys;
 use crate::weighed::Weighed;
 use clip_grammar::query::{Occur, Query};
 use clip_words::NoMemory;
@@ -119,7 +119,7 @@ pub fn second_keys(alloc: Global, query: &Query) -> Result<Vec<Key>, NoMemory>
     match second_child(query) {
         Some(child) => {
             add_keys(alloc, child, &mut found)?;
-            sorted(only_words(found))
+            sort_keys(only_words(found))
         }
         None => Ok(found),
     }

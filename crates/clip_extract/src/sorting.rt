@@ -9,7 +9,7 @@ use clip_words::NoMemory;
 ///
 /// `NoMemory` where an allocation failed. Cost: n log n comparisons of n keys; constant time, and no memory, where n is
 /// 0 or 1.
-pub fn sorted(mut keys: Vec<Key>) -> Result<Vec<Key>, NoMemory>
+pub fn sort_keys(mut keys: Vec<Key>) -> Result<Vec<Key>, NoMemory>
     ensures { IfOk result (λ sorted. map key_of sorted.items ≡ in_order (map key_of keys.items)) }
 {
     if keys.len() < 2 {

@@ -9,7 +9,7 @@ use Rattle.clip_listen.specs.Heard.{Hearer, note_value, notes_of}
 use Rattle.clip_listen.specs.declared.note.Note.{Note}
 use Rattle.clip_listen.proofs.Hearing.{element}
 use Rattle.clip_protocol.specs.Reply.{alerts_data, matched, reply_text, texts_said}
-use Rattle.clip_protocol.specs.declared.form.Form.{Form}
+use Rattle.clip_stream.specs.declared.form.Form.{Form}
 use Rattle.clip_protocol.specs.Steps.Flowing.{Data, closing, item_text, items_begun, opening, shown_data}
 use Rattle.clip_protocol.specs.Steps.Views.{alerts_by_id}
 use Rattle.clip_protocol.proofs.Printed.{items_front, items_next, reply_articles}

@@ -10,7 +10,7 @@ use Rattle.clip_listen.proofs.Hearing.{all_notes_kept}
 use Rattle.clip_ledger.specs.Rows.{RowValue, rows_of}
 use Rattle.clip_protocol.specs.LineMeaning.{Meaning, nothing, refusal, refusal_at, command, purging, counting, showing}
 use Rattle.clip_protocol.specs.LineMeaning.{matching}
-use Rattle.clip_protocol.specs.declared.form.Form.{Form}
+use Rattle.clip_stream.specs.declared.form.Form.{Form}
 use Rattle.clip_protocol.specs.Reply.{matched, alerts_shown, alerts_of_all, reply_text, texts_said}
 use Rattle.clip_front.specs.Outcome.{Outcome, nothing_given, followed_by, given, rows_of_article, kept_rows}
 

@@ -10,7 +10,7 @@ use Rattle.clip_stream.specs.Lines.{lines_of}
 use Rattle.clip_protocol.specs.LineMeaning as line
 use Rattle.clip_protocol.specs.LineMeaning.{Meaning, Means, after}
 use Rattle.clip_protocol.specs.Reply.{reply, alerts_of_all}
-use Rattle.clip_protocol.specs.declared.form.Form.{Form}
+use Rattle.clip_stream.specs.declared.form.Form.{Form}
 use Rattle.clip_front.specs.declared.settings.Settings.{Settings}
 
 -- the text of the replies in each form, the alerts in the order of lines, articles and ids, and a row for each

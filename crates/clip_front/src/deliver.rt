@@ -18,10 +18,10 @@ use crate::books::Books;
 use crate::settings::Settings;
 use clip_listen::{Audience, Note, deliver_to};
 use clip_protocol::{
-    ArticlePart, Form, Found, Shown, closed_text, found_text, opened_text, put_alerts, put_part,
+    ArticlePart, Found, Shown, closed_text, found_text, opened_text, put_alerts, put_part,
 };
 use clip_standing::{AlertView, Alerts};
-use clip_stream::{Flow, RunFault, Sink};
+use clip_stream::{Flow, Form, RunFault, Sink};
 use clip_words::NoMemory;
 use std::alloc::Global;
 

@@ -1,6 +1,6 @@
 //! How a run replies, what it is to do beside that, and by how many workers.
 
-use clip_protocol::Form;
+use clip_stream::Form;
 
 /// How a run replies, what it is to do beside that, and by how many workers.
 #[derive(Clone, Copy, Debug, PartialEq, Eq)]

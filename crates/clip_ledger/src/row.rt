@@ -29,7 +29,7 @@ pub struct Row {
 }
 
 /// Another owner of a text.
-fn shared(text: Option<&ArcStr>) -> Result<Option<ArcStr>, NoMemory>
+fn share(text: Option<&ArcStr>) -> Result<Option<ArcStr>, NoMemory>
     ensures { IfOk result (λ copy. option_map arc_str_bytes copy
         ≡ option_map arc_str_bytes (option_copied text.entry)) }
 {
@@ -50,8 +50,8 @@ impl Row {
         ensures { IfOk result (λ row. row_value row
             ≡ row_with line (alert_value alert.now) (option_map arc_str_bytes (option_copied text.entry))) }
     {
-        let listener = shared(alert.listener())?;
-        let text = shared(text)?;
+        let listener = share(alert.listener())?;
+        let text = share(text)?;
         Ok(Row {
             line,
             article: alert.article().shared_id().clone()?,

@@ -11,7 +11,7 @@ ghost use Rattle.clip_listen.specs.Steps.Index.{Indexes};
 
 use crate::listener::Listener;
 use crate::note::Note;
-use crate::places::{Index, index_of, place_by_walk, repeats};
+use crate::places::{PlaceByName, index_of, place_by_walk, repeats};
 use clip_standing::{Alert, Alerts};
 use clip_words::NoMemory;
 use std::alloc::Global;
@@ -84,7 +84,7 @@ fn keep(notes: &mut Vec<Note>, note: Option<Note>) -> Result<(), NoMemory>
 /// one.
 pub struct Listeners {
     parts: Vec<Named>,
-    index: Option<Index>,
+    index: Option<PlaceByName>,
     ghost once: { IsTrue (distinct (names_of parts.items)) },
     ghost indexed: { ForSome index (λ index. Indexes index 0 (names_of parts.items)) },
 }

@@ -11,12 +11,12 @@ use std::alloc::Global;
 use std::collections::BTreeMap;
 
 /// The place of each listener, by a copy of its name.
-pub(crate) type Index = BTreeMap<String, usize>;
+pub(crate) type PlaceByName = BTreeMap<String, usize>;
 
 /// The index of the listeners; `None` just where a name repeats.
 ///
 /// `NoMemory` where an allocation failed. Cost: a copy of each name, and one search among the names for each.
-pub(crate) fn index_of(alloc: Global, parts: &[Named]) -> Result<Option<Index>, NoMemory>
+pub(crate) fn index_of(alloc: Global, parts: &[Named]) -> Result<Option<PlaceByName>, NoMemory>
     ensures distinct { IfOk result (λ index. is_some index ≡ distinct (names_of parts.now)) }
     ensures places { IfOk result (λ index. ForSome index (λ places. Indexes places 0 (names_of parts.now))) }
 {

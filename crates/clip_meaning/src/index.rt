@@ -87,12 +87,12 @@ fn order(a: &Posting, b: &Posting) -> Ordering
 
 /// A text that is looked for among postings, and its lead. Contracts see the text.
 #[derive(Drop)]
-struct Sought<'a> {
+struct SoughtWord<'a> {
     text: &'a str,
     lead: u64,
 }
 
-impl<'a> Model for Sought<'a> {
+impl<'a> Model for SoughtWord<'a> {
     ghost use Rattle.std.specs.Prelude.{ℕ, List};
     ghost use Rattle.clip_meaning.specs.Leads.{IsLead};
 
@@ -103,12 +103,12 @@ impl<'a> Model for Sought<'a> {
     ghost invariant = { λ s. IsLead s.text.now s.lead };
 }
 
-impl<'a> Sought<'a> {
+impl<'a> SoughtWord<'a> {
     /// Looks for a text.
-    fn of(text: &'a str) -> Sought<'a>
+    fn of(text: &'a str) -> SoughtWord<'a>
         ensures { result ≡ text.now }
     {
-        Sought {
+        SoughtWord {
             text,
             lead: lead_of(text),
         }
@@ -207,7 +207,7 @@ impl WordIndex {
         ensures value { result.now ≡ from_low (End.With word.now) self.now }
         ensures sorted { IsSortedByKey (λ p. p.0) bytes_cmp self.now }
     {
-        let sought = Sought::of(word);
+        let sought = SoughtWord::of(word);
         let postings = self.postings();
         let place = postings.partition_point(
             |posting: &Posting| -> bool
@@ -222,7 +222,7 @@ impl WordIndex {
         ensures value { result.now ≡ from_low (End.Without word.now) self.now }
         ensures sorted { IsSortedByKey (λ p. p.0) bytes_cmp self.now }
     {
-        let sought = Sought::of(word);
+        let sought = SoughtWord::of(word);
         let postings = self.postings();
         let place = postings.partition_point(
             |posting: &Posting| -> bool
@@ -248,7 +248,7 @@ impl WordIndex {
     pub(crate) fn occurrences(&self, word: &str) -> &[Posting]
         ensures { result.now ≡ filter (λ p. bytes_eq p.0 word.now) self.now }
     {
-        let sought = Sought::of(word);
+        let sought = SoughtWord::of(word);
         let postings = self.not_below(word);
         let place = postings.partition_point(
             |posting: &Posting| -> bool

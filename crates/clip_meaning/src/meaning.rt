@@ -56,14 +56,14 @@ fn has_between(article: &Article, field: &str, low: &Bound, high: &Bound) -> boo
 
 /// What was found among the clauses of a group that were asked so far, where the group may still hold.
 #[derive(Clone, Copy)]
-struct Tally {
+struct GroupSoFar {
     has_must: bool,
     has_should: bool,
 }
 
 /// The tally with one more clause, whose child holds or does not; `None` where the group does not hold.
 #[tactic(auto, using(crate::proofs::Groups::must_true, crate::proofs::Groups::must_false, crate::proofs::Groups::must_not_true, crate::proofs::Groups::must_not_false, crate::proofs::Groups::should))]
-fn counted(tally: Tally, occur: Occur, held: bool) -> Option<Tally>
+fn count_clause(tally: GroupSoFar, occur: Occur, held: bool) -> Option<GroupSoFar>
     ensures { (others : List (Occur × Bool)) → MatchOption result
         (group_with tally.has_must tally.has_should ((occur, held) ∷ others) ≡ false)
         (λ next. group_with tally.has_must tally.has_should ((occur, held) ∷ others)
@@ -72,12 +72,12 @@ fn counted(tally: Tally, occur: Occur, held: bool) -> Option<Tally>
     match occur {
         Occur::Must if !held => None,
         Occur::MustNot if held => None,
-        Occur::Must => Some(Tally {
+        Occur::Must => Some(GroupSoFar {
             has_must: true,
             has_should: tally.has_should,
         }),
         Occur::MustNot => Some(tally),
-        Occur::Should => Some(Tally {
+        Occur::Should => Some(GroupSoFar {
             has_must: tally.has_must,
             has_should: tally.has_should || held,
         }),
@@ -110,12 +110,12 @@ pub fn holds(query: &Query, article: &Article) -> bool
         Query::Span { field, low, high } => has_between(article, field, low, high),
         Query::All => true,
         Query::Group(clauses) => {
-            let mut tally = Tally {
+            let mut tally = GroupSoFar {
                 has_must: false,
                 has_should: false,
             };
             for (occur, child) in clauses {
-                match counted(tally, *occur, holds(child, article)) {
+                match count_clause(tally, *occur, holds(child, article)) {
                     Some(next) => tally = next,
                     None => return false,
                 }

@@ -61,14 +61,14 @@ fn keep_bits(words: &mut Vec<u64>, others: &SharedList<u64>)
 }
 
 /// The word with just those of its bits that are met: those of `has`, and those that `needs` has not.
-fn met(word: u64, needs: u64, has: u64) -> u64
+fn keep_met_bits(word: u64, needs: u64, has: u64) -> u64
     ensures { (bit : ℕ) → bit < 64 → is_set result bit
         ≡ (is_set word bit && (is_set has bit || not (is_set needs bit))) }
 {
     word & (has | !needs)
 }
 
-/// Leaves in each word just the bits that `met` leaves, by the other words of its place.
+/// Leaves in each word just the bits that `keep_met_bits` leaves, by the other words of its place.
 fn keep_met_bits(words: &mut Vec<u64>, needs: &Vec<u64>, has: &Vec<u64>)
     ensures length { length words.new.items ≡ length words.old.items }
     ensures bits { (place bit : ℕ) → bit < 64 → is_set (slice_index_or words.new.items place 0) bit
@@ -82,7 +82,7 @@ fn keep_met_bits(words: &mut Vec<u64>, needs: &Vec<u64>, has: &Vec<u64>)
         }
         let needs = needs.get(place).copied().unwrap_or(0);
         let has = has.get(place).copied().unwrap_or(0);
-        words[place] = met(words[place], needs, has);
+        words[place] = keep_met_bits(words[place], needs, has);
     }
 }
 

@@ -20,7 +20,7 @@ fn copied_words(alloc: Global, words: &[ArcStr]) -> Result<Vec<ArcStr>, NoMemory
 }
 
 /// A copy of a query. Texts are shared, but for the ends of ranges.
-pub(crate) fn copied(alloc: Global, query: &Query) -> Result<Query, NoMemory>
+pub(crate) fn copy_query(alloc: Global, query: &Query) -> Result<Query, NoMemory>
     ensures { IfOk result (λ copy. tree_of copy ≡ tree_of query.now) }
 {
     match query {
@@ -45,7 +45,7 @@ pub(crate) fn copied(alloc: Global, query: &Query) -> Result<Query, NoMemory>
         Query::Group(clauses) => {
             let mut copies = Vec::new(alloc);
             for (occur, child) in clauses {
-                copies.push((*occur, copied(alloc, child)?))?;
+                copies.push((*occur, copy_query(alloc, child)?))?;
             }
             Ok(Query::Group(copies))
         }

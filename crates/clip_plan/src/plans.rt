@@ -17,7 +17,7 @@ ghost use Rattle.clip_plan.specs.Plan.{Mark, Leaf, Is, Run, decoded, plan_of, cl
 ghost use Rattle.clip_plan.specs.Steps.Plans.{first_words, Grows, Adds, IsNoGroup};
 ghost use Rattle.clip_plan.specs.declared.step.Step.TheVariants as step;
 
-use crate::copy::copied;
+use crate::copy::copy_query;
 use crate::first_words::FirstWords;
 use crate::step::Step;
 use clip_grammar::query::{Occur, Query};
@@ -201,13 +201,13 @@ fn add_leaf(
         }
         Query::Phrase { field, words } => { add_phrase(planner, occur, field, words, runs, steps) }
         Query::Prefix { field: _, front: _ } => {
-            add_query(occur, copied(planner.alloc, query)?, queries, steps)
+            add_query(occur, copy_query(planner.alloc, query)?, queries, steps)
         }
         Query::Span {
             field: _,
             low: _,
             high: _,
-        } => add_query(occur, copied(planner.alloc, query)?, queries, steps),
+        } => add_query(occur, copy_query(planner.alloc, query)?, queries, steps),
         Query::All => add_query(occur, Query::All, queries, steps),
         Query::Group(_) => Ok(()),
     }

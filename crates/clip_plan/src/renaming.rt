@@ -5,7 +5,7 @@ ghost use Rattle.clip_extract.specs.Keys.{KeyValue};
 ghost use Rattle.clip_plan.specs.Plan.{decoded, mark_names, names, renumbered, renamed};
 ghost use Rattle.clip_plan.specs.Steps.Plans.{Adds, mark_of};
 
-use crate::copy::copied;
+use crate::copy::copy_query;
 use crate::plans::{Plans, add_query, kept_place, push_steps};
 use crate::step::Step;
 use clip_grammar::query::Query;
@@ -51,7 +51,7 @@ fn add_all_named(
 }
 
 /// The new number of a number; 0 where it has none.
-fn renumbered(numbers: &[Option<u32>], number: u32) -> u32
+fn renumber(numbers: &[Option<u32>], number: u32) -> u32
     ensures { result ≡ renumbered numbers.now number }
 {
     match numbers.get(number as usize) {
@@ -67,7 +67,7 @@ fn renumbered_run(alloc: Global, run: &[u32], numbers: &[Option<u32>]) -> Result
 {
     let mut new = Vec::with_capacity(alloc, run.len())?;
     for number in run {
-        new.push(renumbered(numbers, *number))?;
+        new.push(renumber(numbers, *number))?;
     }
     Ok(new)
 }
@@ -77,20 +77,20 @@ fn query_at(alloc: Global, queries: &[Query], place: usize) -> Result<Query, NoM
     ensures { IfOk result (λ copy. tree_of copy ≡ unwrap_or (slice_get (map tree_of queries.now) place) Tree.All) }
 {
     match queries.get(place) {
-        Some(query) => copied(alloc, query),
+        Some(query) => copy_query(alloc, query),
         None => Ok(Query::All),
     }
 }
 
 /// What the steps of other plans name, and the new numbers of terms.
 #[derive(Drop)]
-struct Source<'a> {
+struct Renaming<'a> {
     runs: &'a PackedLists<u32>,
     queries: &'a [Query],
     numbers: &'a [Option<u32>],
 }
 
-impl<'a> Source<'a> {
+impl<'a> Renaming<'a> {
     /// Adds a step with its new numbers.
     fn add_step(
         &self,
@@ -109,12 +109,12 @@ impl<'a> Source<'a> {
     {
         match step {
             Step::Term(occur, number) => {
-                steps.push(Step::Term(occur, renumbered(self.numbers, number)))?;
+                steps.push(Step::Term(occur, renumber(self.numbers, number)))?;
                 Ok(())
             }
             Step::Pair(occur, first, second) => {
-                let first = renumbered(self.numbers, first);
-                let second = renumbered(self.numbers, second);
+                let first = renumber(self.numbers, first);
+                let second = renumber(self.numbers, second);
                 steps.push(Step::Pair(occur, first, second))?;
                 Ok(())
             }
@@ -191,7 +191,7 @@ impl Plans {
             ≡ map (decoded terms) self.old ++ decoded terms
             (renamed numbers.now (unwrap_or (slice_get other.now place) [])) ∷ []) }
     {
-        let source = Source {
+        let source = Renaming {
             runs: &other.runs,
             queries: &other.queries,
             numbers,

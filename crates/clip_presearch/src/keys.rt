@@ -5,7 +5,7 @@ ghost use Rattle.clip_extract.specs.Fronts.{fronts};
 ghost use Rattle.clip_extract.specs.Keys.{Front, key_of};
 ghost use Rattle.clip_extract.specs.Covering.{article_keys, field_keys, front_keys};
 
-use clip_extract::{Fronts, Key, sorted};
+use clip_extract::{Fronts, Key, sort_keys};
 use clip_meaning::{Article, Field};
 use clip_words::NoMemory;
 use std::alloc::Global;
@@ -80,5 +80,5 @@ pub fn article_keys(alloc: Global, article: &Article) -> Result<Vec<Key>, NoMemo
     keys.push(Key::Any)?;
     add_field_words(article.fields(), &mut keys)?;
     add_field_fronts(alloc, article.fields(), &mut keys)?;
-    sorted(keys)
+    sort_keys(keys)
 }

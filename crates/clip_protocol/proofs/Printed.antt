@@ -14,8 +14,8 @@ use Rattle.serde_json.specs.View.{items_of}
 use Rattle.serde_json.specs.Written.{comma_if, compact_text, items_text, members_text}
 use Rattle.serde_json.proofs.Texts.{print-outline}
 use Rattle.clip_model.specs.Alerts.{Alert}
-use Rattle.clip_protocol.specs.declared.form.Form.{Form}
-use Rattle.clip_protocol.specs.declared.form.Form.TheVariants.{Plain, WithHits}
+use Rattle.clip_stream.specs.declared.form.Form.{Form}
+use Rattle.clip_stream.specs.declared.form.Form.TheVariants.{Plain, WithHits}
 use Rattle.clip_protocol.specs.declared.found.Found.{Found}
 use Rattle.clip_protocol.specs.Found.{found_value}
 use Rattle.clip_protocol.specs.Reply as reply

@@ -1,7 +1,7 @@
 -- What was found of an article as contracts see it.
 use Rattle.std.specs.Prelude.{◌≡◌, Bool, false, true, ⊤}
 use Rattle.clip_standing.specs.Alerts.{AlertsValue, alerts_value}
-use Rattle.clip_protocol.specs.declared.form.Form.{Form}
+use Rattle.clip_stream.specs.declared.form.Form.{Form}
 use Rattle.clip_protocol.specs.declared.found.Found.{Found}
 use Rattle.clip_protocol.specs.declared.found.Found.TheVariants.{Alerts, Shown}
 

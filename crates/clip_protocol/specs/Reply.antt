@@ -12,8 +12,8 @@ use Rattle.clip_protocol.specs.LineMeaning as line
 use Rattle.clip_protocol.specs.LineMeaning.{Meaning}
 use Rattle.clip_protocol.specs.Refusal.{word_of}
 use Rattle.clip_protocol.specs.Request.{object_of, array_of}
-use Rattle.clip_protocol.specs.declared.form.Form.{Form}
-use Rattle.clip_protocol.specs.declared.form.Form.TheVariants.{Plain, WithHits}
+use Rattle.clip_stream.specs.declared.form.Form.{Form}
+use Rattle.clip_stream.specs.declared.form.Form.TheVariants.{Plain, WithHits}
 use Rattle.clip_protocol.specs.declared.refusal.Refusal.{Refusal}
 
 -- ---- one line

@@ -13,12 +13,12 @@ ghost use Rattle.clip_protocol.specs.Steps.Flowing.{closing, opening};
 ghost use Rattle.clip_protocol.specs.Steps.Printing.{data_tokens};
 ghost use Rattle.clip_protocol.specs.Steps.Views.{alerts_by_id};
 
-use crate::form::Form;
 use crate::printing::{alerts_text, write_notes, write_number};
-use crate::reply::{begun, line_of};
+use crate::reply::{begin_reply, line_of};
 use crate::shown::Shown;
 use clip_listen::Note;
 use clip_standing::{Alert, Alerts};
+use clip_stream::Form;
 use clip_words::NoMemory;
 use json::Writer;
 use std::alloc::Global;
@@ -70,7 +70,7 @@ impl Found {
 pub fn opened_text(alloc: Global) -> Result<Vec<u8>, NoMemory>
     ensures { IfOk result (λ text. text.items ≡ opening) }
 {
-    let mut out = begun(alloc)?;
+    let mut out = begin_reply(alloc)?;
     out.key("alerts")?;
     out.begin_array()?;
     Ok(out.into_inner())

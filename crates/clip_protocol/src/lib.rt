@@ -1,7 +1,6 @@
 //! The protocol: what a JSON line asks for, what it means after a history, and the text of its reply.
 #![tactic(auto)]
 
-mod form;
 mod found;
 mod judged;
 mod line;
@@ -15,7 +14,6 @@ mod request;
 mod said;
 mod shown;
 
-pub use form::Form;
 pub use found::{Found, closed_text, found_text, opened_text};
 pub use judged::{JudgedDraft, articles_of, judge_drafts};
 pub use line::{Line, is_blank, json_of, may_delete, may_register, read_value};

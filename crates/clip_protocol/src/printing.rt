@@ -12,10 +12,10 @@ ghost use Rattle.clip_protocol.specs.Steps.Flowing.{article_begun, items_begun};
 ghost use Rattle.clip_protocol.specs.Steps.Printing.{Appends, alerts_with_hits, data_tokens, hits_tokens};
 ghost use Rattle.clip_protocol.specs.Steps.Views.{alerts_by_id};
 
-use crate::form::Form;
 use clip_listen::Note;
 use clip_meaning::Hit;
 use clip_standing::{Alert, AlertView, Alerts};
+use clip_stream::Form;
 use clip_words::NoMemory;
 use json::Writer;
 use std::alloc::Global;

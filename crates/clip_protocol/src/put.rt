@@ -13,12 +13,11 @@ ghost use Rattle.clip_protocol.specs.Steps.Parts.{part_text};
 ghost use Rattle.clip_protocol.specs.Steps.Putting.{PutsText, stand};
 ghost use Rattle.clip_protocol.specs.Steps.Views.{alerts_by_id};
 
-use crate::form::Form;
 use crate::found::separate;
 use crate::printing::{article_begun_text, hits_text, ids_text, query_ids, views_with_hits};
 use clip_meaning::Hit;
 use clip_standing::{AlertView, Alerts};
-use clip_stream::{Flow, RunFault, Sink};
+use clip_stream::{Flow, Form, RunFault, Sink};
 use std::alloc::Global;
 
 /// So many bytes of a text are a piece, which is put before more is written behind it.

@@ -10,10 +10,10 @@ ghost use Rattle.clip_protocol.specs.Request.{object_of};
 ghost use Rattle.clip_protocol.specs.Steps.Printing.{data_tokens};
 ghost use Rattle.clip_protocol.specs.Steps.Views.{alerts_by_id, applied_view, reply_view};
 
-use crate::form::Form;
 use crate::printing::{write_alerts_of_all, write_number, write_text, write_text_or_null};
 use crate::refusal::Refusal;
 use clip_standing::{Alerts, Applied};
+use clip_stream::Form;
 use clip_words::NoMemory;
 use json::Writer;
 use std::alloc::Global;
@@ -46,7 +46,7 @@ pub enum Reply {
 }
 
 /// A reply whose object has begun.
-pub fn begun(alloc: Global) -> Result<Writer, NoMemory>
+pub fn begin_reply(alloc: Global) -> Result<Writer, NoMemory>
     ensures before { IfOk result (λ out. out.before ≡ []) }
     ensures tokens { IfOk result (λ out. out.tokens ≡ begin_object ∷ []) }
 {
@@ -66,7 +66,7 @@ pub fn line_of(mut out: Writer) -> Result<Vec<u8>, NoMemory>
 }
 
 /// The text of a reply, of which all but the end of its object is written: compact JSON, and a line feed.
-fn ended(out: Writer) -> Result<Vec<u8>, NoMemory>
+fn end_reply(out: Writer) -> Result<Vec<u8>, NoMemory>
     ensures { (d : Data) → out.before ≡ [] → out.tokens ++ end_object ∷ [] ≡ data_tokens d
         → IfOk result (λ text. text.items ≡ printed d) }
 {
@@ -78,12 +78,12 @@ fn word_text(alloc: Global, number: u64, name: &str, word: &str) -> Result<Vec<u
     ensures { IfOk result (λ text. text.items ≡ printed (object_of
         ((codes "line", number_of number) ∷ (name.now, string word.now) ∷ []))) }
 {
-    let mut out = begun(alloc)?;
+    let mut out = begin_reply(alloc)?;
     out.key("line")?;
     write_number(&mut out, number)?;
     out.key(name)?;
     write_text(&mut out, word)?;
-    ended(out)
+    end_reply(out)
 }
 
 /// The reply to a line that is refused for what its list has at a place.
@@ -96,14 +96,14 @@ fn refused_at_text(
 ) -> Result<Vec<u8>, NoMemory>
     ensures { IfOk result (λ text. text.items ≡ printed (reply_value number (reply.refused_at reason place))) }
 {
-    let mut out = begun(alloc)?;
+    let mut out = begin_reply(alloc)?;
     out.key("line")?;
     write_number(&mut out, number)?;
     out.key("refused")?;
     write_text(&mut out, reason.word())?;
     out.key("which")?;
     write_number(&mut out, place)?;
-    ended(out)
+    end_reply(out)
 }
 
 /// The reply that gives two numbers under these names, which are in byte order.
@@ -117,12 +117,12 @@ fn numbers_text(
     ensures { IfOk result (λ text. text.items ≡ printed (object_of
         ((first.now, number_of one) ∷ (second.now, number_of other) ∷ []))) }
 {
-    let mut out = begun(alloc)?;
+    let mut out = begin_reply(alloc)?;
     out.key(first)?;
     write_number(&mut out, one)?;
     out.key(second)?;
     write_number(&mut out, other)?;
-    ended(out)
+    end_reply(out)
 }
 
 /// The reply to a purge.
@@ -130,12 +130,12 @@ fn numbers_text(
 fn purged_text(alloc: Global, number: u64) -> Result<Vec<u8>, NoMemory>
     ensures { IfOk result (λ text. text.items ≡ printed (reply_value number reply.purged)) }
 {
-    let mut out = begun(alloc)?;
+    let mut out = begin_reply(alloc)?;
     out.key("line")?;
     write_number(&mut out, number)?;
     out.key("purged")?;
     out.boolean(true)?;
-    ended(out)
+    end_reply(out)
 }
 
 /// The reply that shows a query's text, or that there is none.
@@ -144,12 +144,12 @@ fn shown_text(alloc: Global, number: u64, text: &Option<String>) -> Result<Vec<u
     ensures { IfOk result (λ shown. shown.items
         ≡ printed (reply_value number (reply.shown (option_map string_bytes text.now)))) }
 {
-    let mut out = begun(alloc)?;
+    let mut out = begin_reply(alloc)?;
     out.key("line")?;
     write_number(&mut out, number)?;
     out.key("query")?;
     write_text_or_null(&mut out, text)?;
-    ended(out)
+    end_reply(out)
 }
 
 /// The reply to the finish of a batch.
@@ -158,12 +158,12 @@ fn finished_text(alloc: Global, number: u64, found: &[Alerts]) -> Result<Vec<u8>
     ensures { IfOk result (λ text. text.items ≡ printed (reply_value number
         (reply.finished (map alerts_by_id (map alerts_value found.now))))) }
 {
-    let mut out = begun(alloc)?;
+    let mut out = begin_reply(alloc)?;
     out.key("alerts")?;
     write_alerts_of_all(&mut out, alloc, Form::Plain, found)?;
     out.key("line")?;
     write_number(&mut out, number)?;
-    ended(out)
+    end_reply(out)
 }
 
 /// The reply to a command that was accepted.

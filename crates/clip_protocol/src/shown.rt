@@ -7,10 +7,10 @@ ghost use Rattle.clip_protocol.specs.Reply.{alerts_data, form_with, unheard_data
 ghost use Rattle.clip_protocol.specs.Steps.Printing.{data_tokens};
 ghost use Rattle.clip_protocol.specs.Steps.Views.{alerts_by_id};
 
-use crate::form::Form;
 use crate::printing::{alerts_text, unheard_text};
 use crate::said::AlertsSaid;
 use clip_standing::{AlertView, Alerts};
+use clip_stream::Form;
 use clip_words::NoMemory;
 use std::alloc::Global;
 

@@ -10,7 +10,7 @@ use Rattle.clip_standing.specs.Alerts.{AlertsValue}
 use Rattle.clip_listen.specs.Heard.{Hearer, note_value, notes_of, told_all}
 use Rattle.clip_registry.specs.RegistryState.{RegistryState}
 use Rattle.clip_protocol.specs.LineMeaning.{matching}
-use Rattle.clip_protocol.specs.declared.form.Form.{Form}
+use Rattle.clip_stream.specs.declared.form.Form.{Form}
 use Rattle.clip_protocol.specs.Reply.{alerts_data, alerts_shown, alerts_of_all, matched, reply_text, texts_said}
 use Rattle.clip_protocol.specs.Steps.Flowing.{closing, items_begun, opening}
 use Rattle.clip_protocol.specs.Steps.Views.{alerts_by_id}

@@ -17,7 +17,7 @@ use Rattle.clip_front.specs.Outcome.{Follows, nothing_given, OfKept, names_in}
 use Rattle.clip_front.specs.Outcome.{GivesAllFrom, GivesFrontFrom, GivesLinesFrom}
 use Rattle.clip_front.proofs.Following.{follows_some}
 use Rattle.clip_front.specs.declared.settings.Settings.{Settings}
-use Rattle.clip_protocol.specs.declared.form.Form.{Form}
+use Rattle.clip_stream.specs.declared.form.Form.{Form}
 use Rattle.clip_front.specs.Steps.Serving.{ServesAll, ServesFront}
 use Rattle.clip_run.specs.Crews.{CrewIs, course_at}
 use Rattle.clip_run.specs.Owed.{TurnsIn, BreaksIn}

@@ -14,7 +14,7 @@ use Rattle.clip_ledger.specs.Rows.{RowValue}
 use Rattle.clip_protocol.specs.LineMeaning.{Meaning, Means, after, nothing, refusal, refusal_at, command, purging}
 use Rattle.clip_protocol.specs.LineMeaning.{counting, showing, matching}
 use Rattle.clip_protocol.specs.Reply.{reply}
-use Rattle.clip_protocol.specs.declared.form.Form.{Form}
+use Rattle.clip_stream.specs.declared.form.Form.{Form}
 use Rattle.clip_front.specs.Steps.Taking.{IsQuiet, TakesQuietly}
 use Rattle.clip_front.specs.Outcome.{Outcome, nothing_given, followed_by, given, names_in, kept_rows}
 use Rattle.clip_protocol.specs.Steps.Outline.{outline}

@@ -4,8 +4,8 @@ use Rattle.std.specs.List.{list_any}
 use Rattle.std.proofs.lemmas.List.Folds.{list_any_at}
 use Rattle.clip_model.specs.Alerts.{Alert}
 use Rattle.clip_protocol.specs.Reply.{article_data, form_with, query_ids, unheard_data}
-use Rattle.clip_protocol.specs.declared.form.Form.{Form}
-use Rattle.clip_protocol.specs.declared.form.Form.TheVariants.{Plain, WithHits}
+use Rattle.clip_stream.specs.declared.form.Form.{Form}
+use Rattle.clip_stream.specs.declared.form.Form.TheVariants.{Plain, WithHits}
 use Rattle.clip_run.specs.Quiet.{alerts_shown}
 
 none_if : (o : Option (List ℕ)) → (is_some o ≡ true → ⊥) → o ≡ None

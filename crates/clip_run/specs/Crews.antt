@@ -7,8 +7,8 @@ use Rattle.clip_meaning.specs.Article.{ArticleValue, article_code}
 use Rattle.clip_model.specs.History.{History, history_code}
 use Rattle.clip_listen.specs.Heard.{Hearer}
 use Rattle.clip_ledger.specs.Rows.{RowValue, row_code}
-use Rattle.clip_protocol.specs.declared.form.Form.{Form}
-use Rattle.clip_protocol.specs.declared.form.Form.TheVariants.{Plain, WithHits}
+use Rattle.clip_stream.specs.declared.form.Form.{Form}
+use Rattle.clip_stream.specs.declared.form.Form.TheVariants.{Plain, WithHits}
 use Rattle.clip_front.specs.declared.settings.Settings.{Settings}
 use Rattle.clip_run.specs.Owed.{Owed, ready, matched, Course}
 

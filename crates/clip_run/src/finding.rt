@@ -7,8 +7,8 @@ ghost use Rattle.clip_run.specs.Quiet.{alerts_shown};
 
 use clip_front::Settings;
 use clip_match::{DueEntries, HitsFound};
-use clip_protocol::Form;
 use clip_standing::AlertView;
+use clip_stream::Form;
 use clip_words::NoMemory;
 use std::alloc::Global;
 

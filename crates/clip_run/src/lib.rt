@@ -17,7 +17,7 @@ mod session;
 pub use alone::run_alone;
 pub use clip_front::{Ended, Settings};
 pub use clip_match::OpenGate;
-pub use clip_protocol::Form;
+pub use clip_stream::Form;
 pub use finding::hits_found;
 pub use own_registrar::OwnRegistrar;
 pub use session::{Beginning, run, run_again};

@@ -14,8 +14,8 @@ use Rattle.once_cell.proofs.race.once_box.OnceBox.TheSendSync as once_sent
 use Rattle.clip_grammar.proofs.Sent.{query_send, query_sync}
 use Rattle.clip_meaning.proofs.article.Article.TheSendSync as article_sent
 use Rattle.clip_meaning.specs.contracts.hit.Hit as hit
-use Rattle.clip_standing.specs.contracts.reading.Reading as reading
-use Rattle.clip_standing.specs.contracts.reading.Reading.TheInside as reading_inside
+use Rattle.clip_standing.specs.contracts.reading.ReadQuery as reading
+use Rattle.clip_standing.specs.contracts.reading.ReadQuery.TheInside as reading_inside
 use Rattle.clip_standing.specs.contracts.fresh.Fresh as fresh
 use Rattle.clip_standing.specs.contracts.standing.Standing as standing
 use Rattle.clip_standing.specs.contracts.standing.Standing.TheInside as standing_inside

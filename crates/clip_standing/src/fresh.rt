@@ -1,12 +1,12 @@
 //! A reading that goes to the first who takes it.
 
-use crate::reading::Reading;
+use crate::reading::ReadQuery;
 use counted_slot::{Counted, FREE, Fits, PRESENT, TAKEN};
 
 /// A reading that nobody has taken.
 #[derive(Drop)]
 pub(crate) struct Fresh {
-    pub(crate) reading: Box<Reading>,
+    pub(crate) reading: Box<ReadQuery>,
 }
 
 // All that is needed of it is what every reading keeps.
@@ -21,7 +21,7 @@ impl Fits for Fresh {
 pub(crate) type FreshSlot = Counted<Option<Fresh>>;
 
 /// A place that holds a reading.
-pub(crate) fn slot_of(reading: Box<Reading>) -> FreshSlot {
+pub(crate) fn slot_of(reading: Box<ReadQuery>) -> FreshSlot {
     Counted::new(Some(Fresh { reading }), &())
 }
 

@@ -11,12 +11,12 @@ use std::sync::ArcStr;
 
 /// A text and the query that it is read as. Contracts see the text's bytes and the query's tree.
 #[derive(Debug, Drop)]
-pub(crate) struct Reading {
+pub(crate) struct ReadQuery {
     text: ArcStr,
     query: Query,
 }
 
-impl Model for Reading {
+impl Model for ReadQuery {
     ghost use Rattle.std.specs.Prelude.{ℕ, List};
     ghost use Rattle.std.specs.Arc.{arc_str_bytes};
     ghost use Rattle.std.specs.Coded.{coded×, coded_list, coded_ℕ};
@@ -33,13 +33,13 @@ impl Model for Reading {
     ghost invariant = { λ r. Reads (arc_str_bytes r.text) (tree_of r.query) };
 }
 
-impl Reading {
+impl ReadQuery {
     /// A text beside the query that it is read as.
-    pub(crate) fn new(text: ArcStr, query: Query) -> Reading
+    pub(crate) fn new(text: ArcStr, query: Query) -> ReadQuery
         requires { Reads (arc_str_bytes text) (tree_of query) }
         ensures { result ≡ (arc_str_bytes text, tree_of query) }
     {
-        Reading { text, query }
+        ReadQuery { text, query }
     }
 
     /// Whether it is the reading of this text.
@@ -62,7 +62,7 @@ impl Reading {
         ensures query { tree_of result ≡ self.1 }
         ensures reads { Reads self.0 self.1 }
     {
-        let Reading { text: _, query } = self;
+        let ReadQuery { text: _, query } = self;
         query
     }
 }

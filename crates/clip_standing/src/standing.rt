@@ -9,7 +9,7 @@ ghost use Rattle.clip_grammar.specs.Tree.{tree_of};
 ghost use Rattle.clip_meaning.specs.Hits.{hit_value, hits};
 
 use crate::fresh::{FreshSlot, slot_of, take_from};
-use crate::reading::Reading;
+use crate::reading::ReadQuery;
 use clip_grammar::fault::QueryFault;
 use clip_grammar::laws::one_reading;
 use clip_grammar::query::Query;
@@ -81,7 +81,7 @@ pub struct Standing {
     text: ArcStr,
     listener: Option<ArcStr>,
     fresh: FreshSlot,
-    kept: OnceBox<Reading>,
+    kept: OnceBox<ReadQuery>,
     ghost reading: { KeptReading (arc_str_bytes text) } by { one_tree_of _ },
 }
 
@@ -151,7 +151,7 @@ fn shared_texts(
 fn fresh(alloc: Global, text: &ArcStr, query: Query) -> Result<FreshSlot, NoMemory>
     requires { Reads (arc_str_bytes text.now) (tree_of query) }
 {
-    let reading = Box::new(alloc, Reading::new(text.clone()?, query))?;
+    let reading = Box::new(alloc, ReadQuery::new(text.clone()?, query))?;
     Ok(slot_of(reading))
 }
 
@@ -242,12 +242,12 @@ impl Standing {
     }
 
     /// The reading of the text, which is made at the first call and kept.
-    fn reading(&self, alloc: Global) -> Result<&Reading, NoMemory> {
+    fn reading(&self, alloc: Global) -> Result<&ReadQuery, NoMemory> {
         if let Some(reading) = self.kept.get() {
             return Ok(reading);
         }
         let query = self.query(alloc)?;
-        let made = Box::new(alloc, Reading::new(self.text.clone()?, query))?;
+        let made = Box::new(alloc, ReadQuery::new(self.text.clone()?, query))?;
         Ok(self.kept.get_or_init(move || made))
     }
 

@@ -329,7 +329,7 @@ fn sign_token(c: char) -> Token
 
 /// The quoted text after an opening quote, and what is left.
 #[tactic(auto, unfolding(clip_grammar::specs::Steps::Lexer::quoted_at))]
-fn quoted(alloc: Global, text: &[char]) -> Result<Option<(Token, &[char])>, NoMemory>
+fn lex_quoted(alloc: Global, text: &[char]) -> Result<Option<(Token, &[char])>, NoMemory>
     ensures { IfOk result (λ found. option_map token_and_rest found ≡ option_map with_tokens (quoted_at text.now)) }
 {
     let glyphs = Vec::with_capacity(alloc, USUAL_GLYPHS)?;
@@ -508,7 +508,7 @@ pub fn lexeme(alloc: Global, text: &[char]) -> Result<Option<(Option<Token>, &[c
         return Ok(Some((Some(Token::Other), rest)));
     }
     let found = match *first {
-        '"' => quoted(alloc, rest)?,
+        '"' => lex_quoted(alloc, rest)?,
         '[' | '{' => range(alloc, *first, rest)?,
         _ => word(alloc, text)?,
     };

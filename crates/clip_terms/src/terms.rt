@@ -10,7 +10,7 @@ use crate::heads::{Head, head_leads, head_lengths, keys_of};
 use crate::leads::{leads_of, lengths_of};
 use crate::numbering::key_numbers;
 use crate::parts::{FieldPart, parts_of, ranges_of, words_of};
-use clip_extract::{Key, sorted};
+use clip_extract::{Key, sort_keys};
 use clip_words::NoMemory;
 use std::alloc::Global;
 use std::marker::Model;
@@ -69,7 +69,7 @@ impl Terms {
     pub fn of(keys: Vec<Key>) -> Result<Terms, NoMemory>
         ensures { IfOk result (λ terms. terms ≡ in_order (map key_of keys.items)) }
     {
-        let keys = sorted(keys)?;
+        let keys = sort_keys(keys)?;
         if keys.len() > MOST_TERMS {
             return Err(NoMemory);
         }

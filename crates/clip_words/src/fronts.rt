@@ -7,7 +7,7 @@ ghost use Rattle.clip_words.specs.Steps.Fronts.{is_word_mark, is_separator, ends
 ghost use Rattle.clip_words.specs.Steps.Fronts.{front_words, has_letters};
 
 /// The front of a text. Its words and those of the rest are the words of the text.
-pub(crate) enum Front<'a> {
+pub(crate) enum FrontPart<'a> {
     /// One word, of ASCII letters and digits alone.
     Word(&'a str),
     /// Any text.
@@ -81,7 +81,7 @@ fn seam_past(bytes: &[u8], from: usize) -> usize
 
 /// Cuts the front off a text.
 #[inline(always)]
-pub(crate) fn split_front(text: &str) -> (Front<'_>, &str)
+pub(crate) fn split_front(text: &str) -> (FrontPart<'_>, &str)
     requires { 0 < length text.now }
     ensures words { words text.now ≡ front_words result.0 ++ words result.1.now }
     ensures letters { has_letters result.0 ≡ true }
@@ -91,11 +91,11 @@ pub(crate) fn split_front(text: &str) -> (Front<'_>, &str)
     let start = separators(bytes);
     let end = start + letters(&bytes[start..]);
     if start < end && ends_word(&bytes[end..]) {
-        return (Front::Word(&text[start..end]), &text[end..]);
+        return (FrontPart::Word(&text[start..end]), &text[end..]);
     }
     if start < end && is_word_mark(bytes[end]) && ends_word(&bytes[end + 1..]) {
-        return (Front::Word(&text[start..end]), &text[end + 1..]);
+        return (FrontPart::Word(&text[start..end]), &text[end + 1..]);
     }
     let seam = seam_past(bytes, end);
-    (Front::Text(&text[..seam]), &text[seam..])
+    (FrontPart::Text(&text[..seam]), &text[seam..])
 }

@@ -37,7 +37,7 @@ impl Drop for WordPool {
 
 /// Mixes eight bytes more into a hash.
 #[inline(always)]
-fn mixed(hash: u64, bytes: u64) -> u64 {
+fn mix(hash: u64, bytes: u64) -> u64 {
     let product = (hash ^ bytes).wrapping_mul(ODD_FACTOR);
     product ^ (product >> 32)
 }
@@ -48,13 +48,13 @@ fn place_of(word: &str) -> usize {
     let (eights, rest) = word.as_bytes().as_chunks::<8>();
     let mut hash = word.len() as u64;
     for eight in eights {
-        hash = mixed(hash, u64::from_le_bytes(*eight));
+        hash = mix(hash, u64::from_le_bytes(*eight));
     }
     let mut last = 0;
     for byte in rest {
         last = last << 8 | *byte as u64;
     }
-    mixed(hash, last) as usize % PLACES
+    mix(hash, last) as usize % PLACES
 }
 
 impl WordPool {

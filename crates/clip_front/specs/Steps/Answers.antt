@@ -21,7 +21,7 @@ use Rattle.clip_front.specs.declared.answer.Step.{Step}
 use Rattle.clip_front.specs.declared.answer.Step.TheVariants as step
 use Rattle.clip_front.specs.declared.books.Books.{Books}
 use Rattle.clip_front.specs.declared.settings.Settings.{Settings}
-use Rattle.clip_protocol.specs.declared.form.Form.{Form}
+use Rattle.clip_stream.specs.declared.form.Form.{Form}
 use Rattle.clip_protocol.specs.declared.refusal.Unread.{Unread}
 use Rattle.clip_protocol.specs.declared.refusal.Unread.TheVariants as unread
 

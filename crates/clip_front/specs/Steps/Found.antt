@@ -7,7 +7,7 @@ use Rattle.clip_listen.specs.Heard.{Hearer}
 use Rattle.clip_ledger.specs.Rows.{RowValue}
 use Rattle.clip_front.specs.Outcome.{Outcome, rows_of_article}
 use Rattle.clip_front.specs.declared.settings.Settings.{Settings}
-use Rattle.clip_protocol.specs.declared.form.Form.{Form}
+use Rattle.clip_stream.specs.declared.form.Form.{Form}
 use Rattle.clip_protocol.specs.declared.found.Found.{Found}
 use Rattle.clip_protocol.specs.declared.found.Found.TheVariants as found
 use Rattle.clip_protocol.specs.Reply.{matched, reply_text, texts_said}

@@ -5,7 +5,7 @@ use Rattle.clip_listen.specs.Heard.{Hearer}
 use Rattle.clip_protocol.specs.LineMeaning.{Meaning, Means, after, nothing, refusal, refusal_at, command, purging}
 use Rattle.clip_protocol.specs.LineMeaning.{counting, showing, matching}
 use Rattle.clip_protocol.specs.Reply.{reply}
-use Rattle.clip_protocol.specs.declared.form.Form.{Form}
+use Rattle.clip_stream.specs.declared.form.Form.{Form}
 use Rattle.clip_front.specs.declared.answer.Step.{Step}
 use Rattle.clip_front.specs.declared.answer.Step.TheVariants as step
 

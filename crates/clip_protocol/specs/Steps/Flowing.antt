@@ -7,8 +7,8 @@ use Rattle.serde_json.specs.Written.{comma_if, compact_text, members_text}
 use Rattle.clip_model.specs.Alerts.{Alert}
 use Rattle.clip_protocol.specs.Reply.{alerts_data, hits_data, number_of}
 use Rattle.clip_protocol.specs.Request.{array_of, members_from}
-use Rattle.clip_protocol.specs.declared.form.Form.{Form}
-use Rattle.clip_protocol.specs.declared.form.Form.TheVariants.{Plain, WithHits}
+use Rattle.clip_stream.specs.declared.form.Form.{Form}
+use Rattle.clip_stream.specs.declared.form.Form.TheVariants.{Plain, WithHits}
 
 -- an item of an array, after a comma where it stands behind another
 abbrev pub item_text : Bool → Data → List ℕ

@@ -8,8 +8,8 @@ use Rattle.serde_json.specs.View.{items_of}
 use Rattle.serde_json.specs.Written.{outline, items_outline}
 use Rattle.clip_model.specs.Alerts.{Alert}
 use Rattle.clip_protocol.specs.Reply.{hits_data}
-use Rattle.clip_protocol.specs.declared.form.Form.{Form}
-use Rattle.clip_protocol.specs.declared.form.Form.TheVariants.{Plain, WithHits}
+use Rattle.clip_stream.specs.declared.form.Form.{Form}
+use Rattle.clip_stream.specs.declared.form.Form.TheVariants.{Plain, WithHits}
 
 -- the tokens of a value that has no float
 abbrev pub data_tokens : Data → List Token

@@ -4,8 +4,8 @@ use Rattle.std.specs.Prelude.{slice_index}
 use Rattle.std.specs.Char.{is_ascii_alphanumeric}
 use Rattle.std.specs.List.{list_all}
 use Rattle.unicode_segmentation.specs.Word.{words}
-use Rattle.clip_words.specs.declared.fronts.Front.{Front}
-use Rattle.clip_words.specs.declared.fronts.Front.TheVariants.{Word, Text}
+use Rattle.clip_words.specs.declared.fronts.FrontPart.{FrontPart}
+use Rattle.clip_words.specs.declared.fronts.FrontPart.TheVariants.{Word, Text}
 
 -- `.`, `'`, `:`, `,` and `;`, each of which may stand within a word
 abbrev pub is_word_mark : ℕ → Bool
@@ -27,11 +27,11 @@ IsSeam text at =
     × (slice_index text at < 128) × (is_separator (slice_index text at) ≡ false)
 
 -- the words of a front
-abbrev pub front_words : Front → List (List ℕ)
+abbrev pub front_words : FrontPart → List (List ℕ)
 front_words (Word word) = word.now ∷ []
 front_words (Text text) = words text.now
 
 -- one word of a front has letters and digits alone
-abbrev pub has_letters : Front → Bool
+abbrev pub has_letters : FrontPart → Bool
 has_letters (Word word) = list_all is_ascii_alphanumeric word.now
 has_letters (Text text) = true

@@ -12,7 +12,7 @@ returns c =
     let letters : c.in_ok-chars.chars.items ≡ chars text = search (rules, chars_from_encodes) in
     let is = c.deref.ensures.value ∙ letters in
     record {
-      cut = IfOk-weaker c.cut.result _ _ (λ lexed h. cut_up text _ _ _ is h) c.cut.ensures;
-      apart = IfOk-weaker c.cut.result _ _ (λ lexed h. cut_stands text _ _ c.utf8.text (cut_up text _ _ _ is h))
-          c.cut.ensures;
+      cut = IfOk-weaker c.cut_lexemes.result _ _ (λ lexed h. cut_up text _ _ _ is h) c.cut_lexemes.ensures;
+      apart = IfOk-weaker c.cut_lexemes.result _ _ (λ lexed h. cut_stands text _ _ c.utf8.text (cut_up text _ _ _ is h))
+          c.cut_lexemes.ensures;
     }

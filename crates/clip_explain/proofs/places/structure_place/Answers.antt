@@ -4,13 +4,13 @@ use Rattle.clip_explain.specs.Places.{IsOutOfPlace}
 use Rattle.clip_explain.specs.Steps.Fronts.{after_all, after_front}
 use Rattle.clip_explain.proofs.Beginnings.{begun, not_begun}
 use Rattle.clip_explain.proofs.Placing.{search_start, search_more, search_here, search_end}
-use Rattle.clip_explain.specs.declared.fronts.Front.{Front}
+use Rattle.clip_explain.specs.declared.fronts.ClausesBegun.{ClausesBegun}
 use Rattle.clip_explain.proofs.places.structure_place.Goals as goal
 
 pub loop-lexeme-init : goal.loop-lexeme-init
 loop-lexeme-init c = (
   search_start IsOutOfPlace _ _ _ (ap Some (sym c.start-front.ensures)),
-  omega (arith, ap (λ (f : Front). f.depth) c.start-front.ensures),
+  omega (arith, ap (λ (f : ClausesBegun). f.depth) c.start-front.ensures),
 )
 
 pub loop-lexeme-preserved : goal.loop-lexeme-preserved

@@ -4,5 +4,5 @@ use Rattle.clip_explain_lines.specs.Told.{query_data}
 use Rattle.clip_explain_lines.proofs.queries.read_text.Goals as goal
 
 pub returns : goal.returns
-returns c = c.ended.ensures (query_data c.args.told.now c.args.remarks.now c.args.says.now)
+returns c = c.end_object.ensures (query_data c.args.told.now c.args.remarks.now c.args.says.now)
     (grind (arith, common_steps)) (grind (arith, common_steps))

@@ -5,5 +5,5 @@ use Rattle.clip_explain_lines.proofs.spans.spans_text.Goals as goal
 
 pub returns : goal.returns
 returns c =
-    c.ended.ensures (spans_data c.args.text.now c.args.spans.now) (grind (arith, common_steps))
+    c.end_object.ensures (spans_data c.args.text.now c.args.spans.now) (grind (arith, common_steps))
     (grind (arith, common_steps))

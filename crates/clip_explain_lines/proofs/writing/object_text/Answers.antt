@@ -9,6 +9,6 @@ pub returns : goal.returns
 returns c =
     let ms = map member_of c.args.members.now in
     let written = c.in_ok-write_members.ensures in
-    c.ended.ensures (object_of ms) (written.before ∙ c.in_ok-out.ensures.before)
+    c.end_object.ensures (object_of ms) (written.before ∙ c.in_ok-out.ensures.before)
     (ap (λ ts. ts ++ end_object ∷ [])
     (written.tokens ∙ ap (λ ts. ts ++ flat_map member_tokens ms) c.in_ok-out.ensures.tokens) ∙ object_tokens [] ms)

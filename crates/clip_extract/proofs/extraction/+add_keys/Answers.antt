@@ -5,7 +5,7 @@ use Rattle.clip_grammar.specs.Tree.{tree_of}
 use Rattle.clip_extract.specs.Keys.{KeyValue, key_of}
 use Rattle.clip_extract.specs.Extraction.{Extracted, extract, unnarrowed}
 use Rattle.clip_extract.specs.Steps.Groups.{group_from}
-use Rattle.clip_extract.specs.declared.extraction.Found.TheVariants.{Nothing}
+use Rattle.clip_extract.specs.declared.extraction.FoundInGroup.TheVariants.{Nothing}
 use Rattle.clip_extract.proofs.Cuts.{longer}
 use Rattle.clip_extract.proofs.Groups.{extracts_of, group_start, skipped, turn, something, next_extract, extract_group}
 use Rattle.clip_extract.proofs.Groups.{group_end, nothing_found, keys_found}

@@ -3,7 +3,7 @@ use Rattle.clip_grammar.specs.Tree.{tree_of}
 use Rattle.clip_extract.specs.Keys.{key_of}
 use Rattle.clip_extract.specs.Extraction.{extract}
 use Rattle.clip_extract.specs.Steps.Groups.{group_from}
-use Rattle.clip_extract.specs.declared.extraction.Found.TheVariants.{Nothing}
+use Rattle.clip_extract.specs.declared.extraction.FoundInGroup.TheVariants.{Nothing}
 use Rattle.clip_extract.proofs.Groups.{extracts_of}
 use Rattle.clip_extract.proofs.extraction.+add_keys.Given as goal
 

@@ -2,7 +2,7 @@ use Rattle.std.proofs.Common.{◌+◌, [], drop, sym, ap, ◌∙◌}
 use Rattle.clip_grammar.specs.Tree.{tree_of}
 use Rattle.clip_extract.specs.Extraction.{Extracted, extract}
 use Rattle.clip_extract.specs.Steps.Groups.{group_from, next_found}
-use Rattle.clip_extract.specs.declared.extraction.Found.TheVariants.{Nothing}
+use Rattle.clip_extract.specs.declared.extraction.FoundInGroup.TheVariants.{Nothing}
 use Rattle.clip_extract.proofs.Groups.{extracts_of, group_start, extract_group, skipped, next_extract, next_weight}
 use Rattle.clip_extract.proofs.extraction.+weight.Goals as goal
 

@@ -19,23 +19,23 @@ returns-in-Phrase-clause-added c =
     c.in-Phrase.words c.deref.result.now
     c.in-Phrase.is c.deref.ensures.value c.add_phrase.ensures.added
 
-pub returns-in_ok-copied-in-Prefix-clause-added : goal.returns-in_ok-copied-in-Prefix-clause-added
-returns-in_ok-copied-in-Prefix-clause-added c =
+pub returns-in_ok-copy_query-in-Prefix-clause-added : goal.returns-in_ok-copy_query-in-Prefix-clause-added
+returns-in_ok-copy_query-in-Prefix-clause-added c =
     let is = ap tree_of c.in-Prefix.is ∙ tree_of_prefix c.in-Prefix.field c.in-Prefix.front in
     query_added c.add_query.result c.args.planner.now.terms.now c.args.runs.now c.args.queries.now.items
     c.add_query.new.queries.items c.args.steps.now.items c.add_query.new.steps.items c.args.occur
-    c.in_ok-copied-in-Prefix.field-0 c.args.query.now
-    (Tree.Prefix (arc_str_bytes c.in-Prefix.field) (arc_str_bytes c.in-Prefix.front)) (c.in_ok-copied-in-Prefix.ensures
-    ∙ is) is refl c.add_query.ensures.added
+    c.in_ok-copy_query-in-Prefix.field-0 c.args.query.now
+    (Tree.Prefix (arc_str_bytes c.in-Prefix.field) (arc_str_bytes c.in-Prefix.front))
+    (c.in_ok-copy_query-in-Prefix.ensures ∙ is) is refl c.add_query.ensures.added
 
-pub returns-in_ok-copied-in-Span-clause-added : goal.returns-in_ok-copied-in-Span-clause-added
-returns-in_ok-copied-in-Span-clause-added c =
+pub returns-in_ok-copy_query-in-Span-clause-added : goal.returns-in_ok-copy_query-in-Span-clause-added
+returns-in_ok-copy_query-in-Span-clause-added c =
     let is = ap tree_of c.in-Span.is ∙ tree_of_span c.in-Span.field c.in-Span.low c.in-Span.high in
     query_added c.add_query-in-Span.result c.args.planner.now.terms.now c.args.runs.now c.args.queries.now.items
     c.add_query-in-Span.new.queries.items c.args.steps.now.items c.add_query-in-Span.new.steps.items c.args.occur
-    c.in_ok-copied-in-Span.field-0 c.args.query.now
+    c.in_ok-copy_query-in-Span.field-0 c.args.query.now
     (Tree.Span (arc_str_bytes c.in-Span.field) (end_of c.in-Span.low) (end_of c.in-Span.high))
-    (c.in_ok-copied-in-Span.ensures ∙ is) is refl c.add_query-in-Span.ensures.added
+    (c.in_ok-copy_query-in-Span.ensures ∙ is) is refl c.add_query-in-Span.ensures.added
 
 pub returns-in-All-clause-added : goal.returns-in-All-clause-added
 returns-in-All-clause-added c =

@@ -9,6 +9,6 @@ loop-number-preserved c =
     let run = c.args.run.now in
     let i = c.loop-number.number-index in
     c.in_ok-push.ensures.items
-    ∙ ap (λ new. new ++ c.renumbered.result ∷ []) c.loop-number.invariant
-    ∙ ap (λ n. map (renumbered numbers) (take i run) ++ n ∷ []) c.renumbered.ensures
+    ∙ ap (λ new. new ++ c.renumber.result ∷ []) c.loop-number.invariant
+    ∙ ap (λ n. map (renumbered numbers) (take i run) ++ n ∷ []) c.renumber.ensures
     ∙ sym (map_more (renumbered numbers) run i _ c.loop-number-test.true)

@@ -6,7 +6,7 @@ use Rattle.clip_stream.proofs.Faults.{on_err}
 use Rattle.clip_stream.proofs.Flows.{none_taken}
 use Rattle.clip_protocol.specs.Reply.{article_data, query_ids}
 use Rattle.clip_protocol.specs.Steps.Flowing.{item_text}
-use Rattle.clip_protocol.specs.declared.form.Form.{Form}
+use Rattle.clip_stream.specs.declared.form.Form.{Form}
 use Rattle.clip_protocol.proofs.Printed.{article-with_hits}
 use Rattle.clip_protocol.proofs.put.put_alerts.Goals as goal
 

@@ -8,8 +8,8 @@ use Rattle.clip_protocol.specs.Reply.{article_data}
 use Rattle.clip_protocol.specs.Steps.Flowing.{Data, article_begun, hits_member, item_text, items_begun}
 use Rattle.clip_protocol.specs.Steps.Putting.{Puts, Stand, stand, with_text}
 use Rattle.clip_protocol.specs.Steps.Parts.{part_text}
-use Rattle.clip_protocol.specs.declared.form.Form.{Form}
-use Rattle.clip_protocol.specs.declared.form.Form.TheVariants.{Plain, WithHits}
+use Rattle.clip_stream.specs.declared.form.Form.{Form}
+use Rattle.clip_stream.specs.declared.form.Form.TheVariants.{Plain, WithHits}
 use Rattle.clip_protocol.specs.declared.put.ArticlePart.{ArticlePart}
 use Rattle.clip_protocol.proofs.Printed.{items_closed}
 use Rattle.clip_protocol.proofs.Putting.{broken, puts_more, puts_one, puts_written, refused}

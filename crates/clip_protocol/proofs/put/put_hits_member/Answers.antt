@@ -5,8 +5,8 @@ use Rattle.clip_protocol.specs.Reply.{hit_data}
 use Rattle.clip_protocol.specs.Request.{array_of}
 use Rattle.clip_protocol.specs.Steps.Flowing.{Data, hits_member, items_begun}
 use Rattle.clip_protocol.specs.Steps.Putting.{Puts, stand, with_text}
-use Rattle.clip_protocol.specs.declared.form.Form.{Form}
-use Rattle.clip_protocol.specs.declared.form.Form.TheVariants.{WithHits}
+use Rattle.clip_stream.specs.declared.form.Form.{Form}
+use Rattle.clip_stream.specs.declared.form.Form.TheVariants.{WithHits}
 use Rattle.clip_protocol.proofs.Printed.{items_closed}
 use Rattle.clip_protocol.proofs.Putting.{broken, puts_more, puts_written, refused}
 use Rattle.clip_protocol.proofs.put.put_hits_member.Goals as goal

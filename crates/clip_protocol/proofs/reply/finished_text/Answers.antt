@@ -9,5 +9,6 @@ use Rattle.clip_protocol.proofs.reply.finished_text.Goals as goal
 pub returns : goal.returns
 unfolding reply_value
 returns c =
-    c.ended.ensures (reply_value c.args.number (reply.finished (map alerts_by_id (map alerts_value c.args.found.now))))
+    c.end_reply.ensures
+    (reply_value c.args.number (reply.finished (map alerts_by_id (map alerts_value c.args.found.now))))
     (grind (arith, common_steps)) (grind (arith, common_steps))

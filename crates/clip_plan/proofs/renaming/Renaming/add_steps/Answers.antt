@@ -3,7 +3,7 @@ use Rattle.std.proofs.lemmas.List.{take_all}
 use Rattle.clip_grammar.specs.Tree.{tree_of}
 use Rattle.clip_plan.specs.Steps.Plans.{Adds}
 use Rattle.clip_plan.proofs.Renumbering.{marks_renamed, step_renamed}
-use Rattle.clip_plan.proofs.renaming.Source.add_steps.Goals as goal
+use Rattle.clip_plan.proofs.renaming.Renaming.add_steps.Goals as goal
 
 pub loop-step-preserved : goal.loop-step-preserved
 loop-step-preserved c =

@@ -1,6 +1,6 @@
 use Rattle.std.proofs.Common.{arith}
 use Rattle.clip_extract.proofs.SortedKeys.{few_keys, sorted_keys}
-use Rattle.clip_extract.proofs.sorting.sorted.Goals as goal
+use Rattle.clip_extract.proofs.sorting.sort_keys.Goals as goal
 
 pub returns : goal.returns
 returns c = sorted_keys c.args.keys.items c.sort.new.self.items c.dedup.new.self.items c.in_ok-sort.ensures.permutation

@@ -1,7 +1,7 @@
 use Rattle.std.proofs.Common.{◌++◌, ap₂, ◌∙◌}
 use Rattle.json.specs.Print.{print}
 use Rattle.serde_json.proofs.Texts.{print-outline}
-use Rattle.clip_explain_lines.proofs.writing.ended.Goals as goal
+use Rattle.clip_explain_lines.proofs.writing.end_object.Goals as goal
 
 pub returns : goal.returns
 returns c d none_before whole =

@@ -3,7 +3,7 @@ use Rattle.clip_grammar.specs.Tree.{tree_of}
 use Rattle.clip_extract.specs.Keys.{KeyValue}
 use Rattle.clip_plan.specs.Steps.Plans.{Adds}
 use Rattle.clip_plan.proofs.Renumbering.{marks_renamed}
-use Rattle.clip_plan.proofs.renaming.Source.add_steps.Given as goal
+use Rattle.clip_plan.proofs.renaming.Renaming.add_steps.Given as goal
 
 abbrev pub invariant-loop-step : goal.invariant-loop-step
 invariant-loop-step l = record {

@@ -1,7 +1,7 @@
 use Rattle.std.proofs.Common.{length, map}
 use Rattle.clip_explain.specs.Lexemes.{placed_of}
 use Rattle.clip_explain.specs.Steps.Cutting.{IsCutting}
-use Rattle.clip_explain.proofs.cutting.cut.Given as goal
+use Rattle.clip_explain.proofs.cutting.cut_lexemes.Given as goal
 
 abbrev pub invariant-loop-lexemes : goal.invariant-loop-lexemes
 invariant-loop-lexemes l = IsCutting l.text (map placed_of l.lexemes.items) l.rest l.start

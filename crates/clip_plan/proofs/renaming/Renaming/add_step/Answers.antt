@@ -1,14 +1,14 @@
 use Rattle.std.proofs.Common.{map, ◌∙◌}
 use Rattle.clip_grammar.specs.Tree.{tree_of}
 use Rattle.clip_plan.proofs.Renumbering.{term_renamed, open_renamed, close_renamed, run_renamed, query_renamed}
-use Rattle.clip_plan.proofs.renaming.Source.add_step.Goals as goal
+use Rattle.clip_plan.proofs.renaming.Renaming.add_step.Goals as goal
 
 pub returns-in_ok-push-in-Term-clause-added : goal.returns-in_ok-push-in-Term-clause-added
 returns-in_ok-push-in-Term-clause-added c = λ terms.
     let source = c.args.self.now in
     term_renamed terms source.numbers.now source.runs.now c.args.runs.now (map tree_of source.queries.now)
     c.args.queries.now.items c.args.steps.now.items c.push.new.self.items
-    c.in-Term.occur c.in-Term.number c.renumbered.result c.args.step c.in-Term.is c.renumbered.ensures
+    c.in-Term.occur c.in-Term.number c.renumber.result c.args.step c.in-Term.is c.renumber.ensures
     c.in_ok-push-in-Term.ensures.items
 
 pub returns-in_ok-push-in-Open-clause-added : goal.returns-in_ok-push-in-Open-clause-added

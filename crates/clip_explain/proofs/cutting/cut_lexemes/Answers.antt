@@ -11,7 +11,7 @@ use Rattle.clip_explain.specs.Lexemes.{placed_of}
 use Rattle.clip_explain.specs.Steps.Cutting.{IsCutting}
 use Rattle.clip_explain.specs.declared.cutting.Lexeme.{Lexeme}
 use Rattle.clip_explain.proofs.Lexing.{cutting_more, rest_shorter, cut_fits, front_fits}
-use Rattle.clip_explain.proofs.cutting.cut.Goals as goal
+use Rattle.clip_explain.proofs.cutting.cut_lexemes.Goals as goal
 
 pub before-requires : goal.before-requires
 before-requires c =

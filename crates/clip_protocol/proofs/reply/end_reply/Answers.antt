@@ -2,7 +2,7 @@ use Rattle.std.proofs.Common.{◌≡◌, [], ◌∷◌, ◌++◌, IfOk, List, �
 use Rattle.json.specs.Print.{print}
 use Rattle.serde_json.proofs.Texts.{print-outline}
 use Rattle.clip_protocol.specs.Reply.{printed}
-use Rattle.clip_protocol.proofs.reply.ended.Goals as goal
+use Rattle.clip_protocol.proofs.reply.end_reply.Goals as goal
 
 pub returns : goal.returns
 unfolding printed

@@ -1,7 +1,7 @@
 use Rattle.std.proofs.Common.{◌∙◌}
 use Rattle.clip_words.specs.Order.{bytes_cmp}
 use Rattle.clip_meaning.proofs.Leads.{leads_settle}
-use Rattle.clip_meaning.proofs.index.Sought.order.Goals as goal
+use Rattle.clip_meaning.proofs.index.SoughtWord.order.Goals as goal
 
 pub returns-then-self-posting : goal.returns-then-self-posting
 returns-then-self-posting c =
