@@ -14,7 +14,7 @@ from pathlib import Path
 
 from setuptools import Distribution, setup
 from setuptools.command.build_py import build_py
-from wheel.bdist_wheel import bdist_wheel
+from wheel.bdist_wheel import bdist_wheel  # type: ignore[import]
 
 NAME = "libpressclip.so"
 HERE = Path(__file__).resolve().parent
@@ -67,7 +67,7 @@ class BuildWithLibrary(build_py):
             into.chmod(0o644)
 
 
-class WheelWithLibrary(bdist_wheel):
+class WheelWithLibrary(bdist_wheel):  # type: ignore[misc]
     """A wheel for every Python 3, which calls the library by ctypes."""
 
     def get_tag(self) -> tuple[str, str, str]:

@@ -2,7 +2,7 @@
 
 from __future__ import annotations
 
-import regex  # type: ignore[import]
+import regex
 
 _NOT_BY_CHARACTERS = regex.compile(r"[\p{M}\p{Cf}]")
 _CLUSTER = regex.compile(r"\X")

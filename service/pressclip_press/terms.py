@@ -8,7 +8,7 @@ from dataclasses import dataclass
 from functools import cached_property
 from typing import Protocol
 
-import regex  # type: ignore[import]
+import regex
 
 from .near import Span
 from .preparing import SEPARATOR

@@ -7,7 +7,7 @@ from collections.abc import Callable, Sequence
 from dataclasses import dataclass
 from functools import cached_property
 
-import regex  # type: ignore[import]
+import regex
 
 from .library import LIBRARY
 from .preparing import SEPARATOR

@@ -13,7 +13,7 @@ import sys
 import tempfile
 from pathlib import Path
 
-from PIL import Image  # type: ignore[import]
+from PIL import Image
 
 sys.dont_write_bytecode = True
 sys.path.insert(0, str(Path(__file__).resolve().parents[1]))
@@ -74,7 +74,7 @@ def main(target: Path) -> None:
         try:
             stage(browser, door)
             with Image.open(browser.shoot("door")) as picture:
-                picture.convert("RGB").quantize(COLOURS, Image.Quantize.MAXCOVERAGE).save(target, optimize=True)
+                picture.convert("RGB").quantize(COLOURS, Image.Quantize.MAXCOVERAGE.value).save(target, optimize=True)
         finally:
             browser.close()
 

@@ -221,6 +221,6 @@ def people_get_a_caret_under_the_place() -> None:
 
 
 TESTS: tuple[Callable[[], None], ...] = (
-    other_words_are_refused, the_explainer_tells_its_version, a_full_disk_ends_the_program, other_lines_are_refused, each_fault_is_told, a_query_is_told,
-    a_line_of_the_protocol_is_judged, desks_are_told_what_they_mean, both_programs_refuse_the_same_texts,
+    other_words_are_refused, the_explainer_tells_its_version, a_full_disk_ends_the_program, other_lines_are_refused,
+    each_fault_is_told, a_query_is_told, a_line_of_the_protocol_is_judged, desks_are_told_what_they_mean, both_programs_refuse_the_same_texts,
     words_stand_where_the_engine_hits, people_get_a_caret_under_the_place)

@@ -27,7 +27,8 @@ COUNT = b'{"op":"count"}\n'
 
 def answers_as_the_engine() -> None:
     """A whole input at once, with lines that are too long and a last line without its line feed."""
-    for seed, engine in ((1, command_of([], workers=0)), (2, [*command_of([], workers=2), "hits"]), (3, ["pressclip", "run"])):
+    for seed, engine in ((1, command_of([], workers=0)), (2, [*command_of([], workers=2), "hits"]),
+                         (3, ["pressclip", "run"])):
         source = Source(seed)
         text = joined(with_long_lines(source.lines(1_500), source.dice)) + COUNT.strip()
         with folder() as name:
@@ -280,10 +281,11 @@ def lines_come_to_the_program_whole() -> None:
                 pass
             kept.close()
             need(kept.status == 0, kept.last_words)
-            same(bytes(kept.got), due.text() + replies_of_engine(joined(due.lines) + COUNT).splitlines(True)[-1], f"by {most}")
+            count = replies_of_engine(joined(due.lines) + COUNT).splitlines(True)[-1]
+            same(bytes(kept.got), due.text() + count, f"by {most}")
 
 
 TESTS = (answers_as_the_engine, goes_on_after_its_end, ended_at_random_places, its_program_ended,
          a_second_one_is_refused, words_are_those_of_the_program, another_engine_is_told, a_full_disk_ends_it,
-         a_failing_sync_ends_it, a_journal_that_cannot_be_written, a_program_that_is_not_there, files_are_for_their_owner_alone,
-         each_new_folder_is_synced_in_its_parent, versions_are_told, lines_come_to_the_program_whole)
+         a_failing_sync_ends_it, a_journal_that_cannot_be_written, a_program_that_is_not_there,
+         files_are_for_their_owner_alone, each_new_folder_is_synced_in_its_parent, versions_are_told, lines_come_to_the_program_whole)

@@ -226,6 +226,6 @@ def what_frees_memory_goes_on() -> None:
         client.close()
 
 
-TESTS = (settings_are_written_at_once, a_grid_names_the_version_that_made_it, strange_entries_are_passed_over, hits_are_put_together,
-         hits_go_through_a_grid, a_replica_is_told_and_waited_for, an_emptied_redis_is_told, an_older_file_is_told,
+TESTS = (settings_are_written_at_once, a_grid_names_the_version_that_made_it, strange_entries_are_passed_over,
+         hits_are_put_together, hits_go_through_a_grid, a_replica_is_told_and_waited_for, an_emptied_redis_is_told, an_older_file_is_told,
          what_frees_memory_goes_on)

@@ -4,7 +4,7 @@ from __future__ import annotations
 
 from functools import lru_cache
 
-import regex  # type: ignore[import]
+import regex
 
 _CLASSES = ("ALetter", "Hebrew_Letter", "Numeric", "Katakana", "ExtendNumLet", "MidLetter", "MidNum", "MidNumLet",
             "Extend", "Format", "ZWJ", "Double_Quote", "Single_Quote")

@@ -5,9 +5,9 @@ from __future__ import annotations
 import re
 from dataclasses import dataclass
 from functools import lru_cache
-from typing import Iterator
+from typing import Iterator, NamedTuple
 
-import regex  # type: ignore[import]
+import regex
 
 from .folding import FOLDING
 from .mending import with_plain_letters
@@ -38,13 +38,20 @@ def _stopped(word: str, letter: str) -> str:
     return rf"(?P<stopped>(?<![{word}.]){letter}[{word}]*(?:\.{letter}[{word}]*)+)"
 
 
+class _Expressions(NamedTuple):
+    """By what marks are found: in ASCII by the standard library, which is quicker, and in other texts by `regex`."""
+
+    tokens: re.Pattern[str] | regex.Pattern[str]
+    stopped: re.Pattern[str] | regex.Pattern[str]
+
+
 # Scripts whose words have no blanks between: a name of another script may stand right beside them.
 _UNPARTED = r"[\p{Han}\p{Hiragana}\p{Katakana}\p{Hangul}\p{Thai}\p{Lao}\p{Khmer}\p{Myanmar}ー々〆]"
 _WORD, _LETTER = rf"[\w\p{{M}}]--{_UNPARTED}", rf"[\p{{L}}--{_UNPARTED}]"
-_OF_ASCII = (re.compile(_tokens("A-Za-z0-9_", "[A-Za-z]", "A-Za-z0-9_")),
-             re.compile(_stopped("A-Za-z0-9_", "[A-Za-z]")))
-_OF_ALL = (regex.compile(_tokens(_WORD, _LETTER, r"\w\p{M}"), regex.V1),
-           regex.compile(_stopped(_WORD, _LETTER), regex.V1))
+_OF_ASCII = _Expressions(re.compile(_tokens("A-Za-z0-9_", "[A-Za-z]", "A-Za-z0-9_")),
+                         re.compile(_stopped("A-Za-z0-9_", "[A-Za-z]")))
+_OF_ALL = _Expressions(regex.compile(_tokens(_WORD, _LETTER, r"\w\p{M}"), regex.V1),
+                       regex.compile(_stopped(_WORD, _LETTER), regex.V1))
 _FRONT = regex.compile(f"[{_WORD}]+", regex.V1)
 _SIGN = re.compile(rf"[#@&+!%.{_MONEY}]")
 _OF_TOKEN = re.compile(rf"[\w&+#@%!.,{_MONEY}\u0300-\u036f\u0900-\u0dff]*")
@@ -101,12 +108,13 @@ def _found(text: str) -> Iterator[Mark]:
         start, done = _reach(text, sign.start(), done)
         chunk = text[start:done]
         tokens, stopped = _OF_ASCII if chunk.isascii() else _OF_ALL
-        matches = list(tokens.finditer(text, start, done))
+        matches: list[re.Match[str] | regex.Match[str]] = list(tokens.finditer(text, start, done))
         if "." in chunk:
             matches += stopped.finditer(text, start, done)
         # What a tag names may be such a token too, as in `@AT&T`.
         inner = [tokens.match(text, match.start() + 1, done) for match in matches if match.lastgroup == "tag"]
-        for match in (*matches, *filter(None, inner)):
+        matches += filter(None, inner)
+        for match in matches:
             if words := _words(match.lastgroup, match[0]):
                 yield Mark(match.start(), match.end(), words)
 
