@@ -27,7 +27,7 @@ pub fn end<R: Eprint>(rt: &R, folder: &str, outcome: Result<(), Fault>) -> ExitC
 }
 
 /// Says on standard error that there is no memory for the words, and gives the status of that.
-pub fn end_unread<R: Eprint>(rt: &R) -> ExitCode
+pub fn end_without_memory<R: Eprint>(rt: &R) -> ExitCode
     ensures { exit_status result ≡ status_of Fault.NoMemory }
 {
     let _ = rt.eprintln("pressclip-keep: no memory");

@@ -3,7 +3,7 @@ ghost use Rattle.std.specs.Prelude.{◌≤◌};
 ghost use Rattle.std.specs.Process.{exit_status};
 ghost use Rattle.clip_keeping.specs.Words.{HasFewWorkers};
 
-use crate::ending::{end, end_refused, end_unread};
+use crate::ending::{end, end_refused, end_without_memory};
 use crate::fault::Fault;
 use crate::looking::print_looked;
 use crate::streams::keep;
@@ -76,7 +76,7 @@ pub fn play<
     let words = match words_of(rt) {
         Ok(words) => words,
         Err(error) if error.kind() == ErrorKind::OutOfMemory => {
-            return end_unread(rt);
+            return end_without_memory(rt);
         }
         Err(_) => return end_refused(rt),
     };
@@ -86,6 +86,6 @@ pub fn play<
             end(rt, folder.as_str(), outcome)
         }
         Ok(None) => end_refused(rt),
-        Err(_) => end_unread(rt),
+        Err(_) => end_without_memory(rt),
     }
 }
