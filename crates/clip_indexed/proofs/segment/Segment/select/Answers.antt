@@ -2,12 +2,12 @@ use Rattle.std.proofs.Common.{◌≡◌, List, length, map, vec_items, is_some, 
 use Rattle.std.specs.Arc.{arc_value}
 use Rattle.std.proofs.lemmas.List.{length-map}
 use Rattle.clip_model.specs.History.{Registered}
-use Rattle.clip_segment.specs.Index.{IsIndexOf}
-use Rattle.clip_segment.specs.Selecting.{kept_of}
-use Rattle.clip_segment.specs.Segment.{IsRising, heard_of, ids_of, seqs_of, trees_of}
-use Rattle.clip_segment.proofs.Flagged.{kept_few}
-use Rattle.clip_segment.proofs.Selected.{kept_map}
-use Rattle.clip_segment.proofs.segment.Segment.select.Goals as goal
+use Rattle.clip_indexed.specs.Index.{IsIndexOf}
+use Rattle.clip_indexed.specs.Selecting.{kept_of}
+use Rattle.clip_indexed.specs.Segment.{IsRising, heard_of, ids_of, seqs_of, trees_of}
+use Rattle.clip_indexed.proofs.Flagged.{kept_few}
+use Rattle.clip_indexed.proofs.Selected.{kept_map}
+use Rattle.clip_indexed.proofs.segment.Segment.select.Goals as goal
 
 pub invariant_of-result : goal.invariant_of-result
 invariant_of-result c =

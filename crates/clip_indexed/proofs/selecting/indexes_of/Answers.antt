@@ -1,11 +1,11 @@
 use Rattle.std.proofs.Common.{◌≡◌, ◌+◌, ◌<◌, [], ◌∷◌, ◌++◌, map, length, take, sym, ap, subst, ◌∙◌, arith, Bor}
 use Rattle.std.proofs.lemmas.List.{map-append, take_more}
 use Rattle.std.specs.Arc.{arc_value}
-use Rattle.clip_segment.specs.Index.{IndexValue, IsIndexOf}
-use Rattle.clip_segment.specs.Selecting.{AreIndexesOf}
-use Rattle.clip_segment.specs.Segment.{trees_of}
-use Rattle.clip_segment.proofs.Selected.{one_more}
-use Rattle.clip_segment.proofs.selecting.indexes_of.Goals as goal
+use Rattle.clip_indexed.specs.Index.{IndexValue, IsIndexOf}
+use Rattle.clip_indexed.specs.Selecting.{AreIndexesOf}
+use Rattle.clip_indexed.specs.Segment.{trees_of}
+use Rattle.clip_indexed.proofs.Selected.{one_more}
+use Rattle.clip_indexed.proofs.selecting.indexes_of.Goals as goal
 
 pub loop-segment-preserved : goal.loop-segment-preserved
 loop-segment-preserved c =

@@ -1,8 +1,8 @@
 use Rattle.std.proofs.Common.{map, take}
 use Rattle.std.specs.Arc.{arc_value}
-use Rattle.clip_segment.specs.Selecting.{AreIndexesOf}
-use Rattle.clip_segment.specs.Segment.{trees_of}
-use Rattle.clip_segment.proofs.selecting.indexes_of.Given as goal
+use Rattle.clip_indexed.specs.Selecting.{AreIndexesOf}
+use Rattle.clip_indexed.specs.Segment.{trees_of}
+use Rattle.clip_indexed.proofs.selecting.indexes_of.Given as goal
 
 abbrev pub invariant-loop-segment : goal.invariant-loop-segment
 invariant-loop-segment l =

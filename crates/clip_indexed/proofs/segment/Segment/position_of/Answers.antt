@@ -1,9 +1,9 @@
 use Rattle.std.proofs.Common.{◌≡◌, List, Some, ℕ, slice_get, subst, sym, ◌∙◌}
 use Rattle.clip_model.specs.History.{Registered}
-use Rattle.clip_segment.specs.Segment.{seqs_of}
-use Rattle.clip_segment.specs.Steps.SegmentView.{entries_of}
-use Rattle.clip_segment.proofs.Found.{seq_above, seq_found, seq_missing}
-use Rattle.clip_segment.proofs.segment.Segment.position_of.Goals as goal
+use Rattle.clip_indexed.specs.Segment.{seqs_of}
+use Rattle.clip_indexed.specs.Steps.SegmentView.{entries_of}
+use Rattle.clip_indexed.proofs.Found.{seq_above, seq_found, seq_missing}
+use Rattle.clip_indexed.proofs.segment.Segment.position_of.Goals as goal
 
 pub returns-then-last-seq-clause-nowhere : goal.returns-then-last-seq-clause-nowhere
 returns-then-last-seq-clause-nowhere c _ =

@@ -2,11 +2,11 @@ use Rattle.std.proofs.Common.{map, vec_items, sym, subst, Bor}
 use Rattle.std.proofs.lemmas.Result.{IfOk-weaker}
 use Rattle.std.specs.Arc.{arc_value}
 use Rattle.clip_model.specs.History.{Registered}
-use Rattle.clip_segment.specs.Index.{IndexValue, IsIndexOf}
-use Rattle.clip_segment.specs.Selecting.{AreIndexesOf, kept_of}
-use Rattle.clip_segment.specs.Segment.{trees_of}
-use Rattle.clip_segment.proofs.Selected.{kept_map, flags_of_trees}
-use Rattle.clip_segment.proofs.selecting.kept_index.Goals as goal
+use Rattle.clip_indexed.specs.Index.{IndexValue, IsIndexOf}
+use Rattle.clip_indexed.specs.Selecting.{AreIndexesOf, kept_of}
+use Rattle.clip_indexed.specs.Segment.{trees_of}
+use Rattle.clip_indexed.proofs.Selected.{kept_map, flags_of_trees}
+use Rattle.clip_indexed.proofs.selecting.kept_index.Goals as goal
 
 pub returns : goal.returns
 returns c =
