@@ -2,8 +2,8 @@
 ghost use Rattle.std.specs.Prelude.{◌≡◌, ◌≤◌, IfOk, length, map};
 ghost use Rattle.std.specs.Arc.{arc_value};
 ghost use Rattle.clip_merge.specs.Live.{named, names};
-ghost use Rattle.clip_segment.specs.Segment.{IsRising, all_entries, seqs_of};
-ghost use Rattle.clip_segment.specs.declared.segment.TheConstants.{MOST_POSITIONS};
+ghost use Rattle.clip_indexed.specs.Segment.{IsRising, all_entries, seqs_of};
+ghost use Rattle.clip_indexed.specs.declared.segment.TheConstants.{MOST_POSITIONS};
 
 use crate::live::Live;
 use clip_segment::Segment;

@@ -4,7 +4,7 @@ ghost use Rattle.std.specs.Prelude.{IfOk, OnOk};
 ghost use Rattle.std.specs.Arc.{arc_value};
 ghost use Rattle.std.specs.List.{Contains, list_all};
 ghost use Rattle.clip_model.specs.History.{Registered};
-ghost use Rattle.clip_segment.specs.Segment.{all_entries, seqs_of};
+ghost use Rattle.clip_indexed.specs.Segment.{all_entries, seqs_of};
 ghost use Rattle.clip_registry.specs.Merging.{shelf};
 ghost use Rattle.clip_registry.specs.Steps.LiveFlags.{died, flags_by, flags_of, stays, without, without_all};
 

@@ -2,9 +2,9 @@
 ghost use Rattle.std.specs.Prelude.{◌≡◌, ◌≤◌, true, length, map, replicate, IfOk};
 ghost use Rattle.std.specs.Arc.{arc_value};
 ghost use Rattle.clip_model.specs.History.{replay};
-ghost use Rattle.clip_segment.specs.Segment.{IsRising};
-ghost use Rattle.clip_segment.specs.Selecting.{AreFlagsOf, count_set, flagged, kept_of};
-ghost use Rattle.clip_segment.specs.declared.segment.TheConstants.{MOST_POSITIONS};
+ghost use Rattle.clip_indexed.specs.Segment.{IsRising};
+ghost use Rattle.clip_indexed.specs.Selecting.{AreFlagsOf, count_set, flagged, kept_of};
+ghost use Rattle.clip_indexed.specs.declared.segment.TheConstants.{MOST_POSITIONS};
 ghost use Rattle.clip_registry.specs.Merging.{purged};
 ghost use Rattle.clip_registry.specs.Steps.LiveFlags.{flags_in};
 ghost use Rattle.clip_registry.specs.Steps.Merging.{AreKept};

@@ -3,7 +3,7 @@ ghost use Rattle.std.specs.Prelude.{◌≡◌, IfOk, filter, map, length, option
 ghost use Rattle.std.specs.Arc.{arc_value};
 ghost use Rattle.std.specs.FinMap as finite;
 ghost use Rattle.clip_model.specs.History.{IsLegal, own, replay, is_live};
-ghost use Rattle.clip_segment.specs.Segment.{IsRising, all_entries};
+ghost use Rattle.clip_indexed.specs.Segment.{IsRising, all_entries};
 ghost use Rattle.clip_registry.specs.RegistryState.{IsWhole, kept_history};
 
 use crate::held::{copy_of, history_of, number_of};

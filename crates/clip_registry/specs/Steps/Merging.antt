@@ -2,9 +2,9 @@
 use Rattle.std.specs.Prelude.{◌≡◌, ℕ, ◌+◌, ◌<◌, ◌≤◌, Bool, List, ◌++◌, map, filter, length, take, drop, Contains}
 use Rattle.std.specs.Prelude.{IsTrue}
 use Rattle.std.specs.Arc.{arc_value}
-use Rattle.clip_segment.specs.Segment.{IsRising, all_entries}
-use Rattle.clip_segment.specs.declared.segment.TheConstants.{MOST_POSITIONS}
-use Rattle.clip_segment.specs.Selecting.{kept_of}
+use Rattle.clip_indexed.specs.Segment.{IsRising, all_entries}
+use Rattle.clip_indexed.specs.declared.segment.TheConstants.{MOST_POSITIONS}
+use Rattle.clip_indexed.specs.Selecting.{kept_of}
 use Rattle.clip_model.specs.History.{Registered, is_live}
 use Rattle.clip_registry.specs.Merging.{Job, Merge, shelf}
 use Rattle.clip_registry.specs.RegistryState.{RegistryState}

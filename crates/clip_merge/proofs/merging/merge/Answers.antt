@@ -2,9 +2,9 @@ use Rattle.std.proofs.Common.{◌≡◌, ◌≤◌, map, vec_items, sym, ap, sub
 use Rattle.std.proofs.lemmas.List.{take_all}
 use Rattle.std.proofs.lemmas.Result.{IfOk-weaker}
 use Rattle.std.specs.Arc.{arc_value}
-use Rattle.clip_segment.specs.Selecting.{AreFlagsOf, count_set, kept_of}
-use Rattle.clip_segment.specs.Segment.{IsRising, all_entries}
-use Rattle.clip_segment.specs.declared.segment.TheConstants.{MOST_POSITIONS}
+use Rattle.clip_indexed.specs.Selecting.{AreFlagsOf, count_set, kept_of}
+use Rattle.clip_indexed.specs.Segment.{IsRising, all_entries}
+use Rattle.clip_indexed.specs.declared.segment.TheConstants.{MOST_POSITIONS}
 use Rattle.clip_merge.specs.Live.{named}
 use Rattle.clip_merge.proofs.Named.{flags_of, flags_each, count_named, kept_named, named_rising}
 use Rattle.clip_merge.proofs.merging.merge.Goals as goal

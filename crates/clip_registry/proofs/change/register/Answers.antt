@@ -4,7 +4,7 @@ use Rattle.std.proofs.lemmas.Bool.Decides.{nat_tests}
 use Rattle.std.proofs.lemmas.List.{map-append, length-map, nil_from_length}
 use Rattle.std.specs.Arc.{arc_value}
 use Rattle.std.specs.FinMap as finite
-use Rattle.clip_segment.specs.Segment.{IsRising}
+use Rattle.clip_indexed.specs.Segment.{IsRising}
 use Rattle.clip_model.specs.declared.limits.TheConstants.{MOST_LIVE}
 use Rattle.clip_model.specs.History.{Register, Registered, register_all, is_live_in}
 use Rattle.clip_standing.specs.declared.command.Applied.TheVariants as applied

@@ -1,7 +1,7 @@
 use Rattle.std.proofs.Common.{◌≡◌, true, filter, length, replicate, refl, sym, ap, ◌∙◌}
 use Rattle.std.proofs.lemmas.Result.{IfOk-weaker}
 use Rattle.clip_model.specs.History.{Registered}
-use Rattle.clip_segment.specs.Selecting.{flagged}
+use Rattle.clip_indexed.specs.Selecting.{flagged}
 use Rattle.clip_registry.specs.Steps.LiveFlags.{flags_of, without_all}
 use Rattle.clip_registry.proofs.LiveFlags.{all_flagged, length-flags_of}
 use Rattle.clip_registry.proofs.Picked.{flagged_by}

@@ -1,7 +1,7 @@
 use Rattle.std.proofs.Common.{◌≡◌, ℕ, ◌<◌, ◌++◌, ◌∷◌, [], get_or, take, length, sym, ap, ◌∙◌, arith, append_assoc}
 use Rattle.clip_pieces.specs.Marked.{is_lost}
 use Rattle.clip_pieces.proofs.Lost.{lost_within}
-use Rattle.clip_segment.specs.Segment.{seqs_of}
+use Rattle.clip_indexed.specs.Segment.{seqs_of}
 use Rattle.clip_registry.specs.Steps.LiveFlags.{died, flags_of}
 use Rattle.clip_registry.proofs.Clearing.{all_died, one_more}
 use Rattle.clip_registry.proofs.live_flags.add_died.Goals as goal

@@ -1,5 +1,5 @@
 use Rattle.std.proofs.Common.{◌≡◌, ℕ, ◌≤◌, ◌-◌, ◌++◌, Bool, length, take}
-use Rattle.clip_segment.specs.Segment.{seqs_of}
+use Rattle.clip_indexed.specs.Segment.{seqs_of}
 use Rattle.clip_registry.specs.Steps.LiveFlags.{died, flags_of}
 use Rattle.clip_registry.proofs.live_flags.add_died.Given as goal
 

@@ -3,7 +3,7 @@ use Rattle.std.proofs.lemmas.List.{length-map}
 use Rattle.std.proofs.lemmas.Option.{slice_get_within}
 use Rattle.std.proofs.lemmas.Result.{on_ok_weaker}
 use Rattle.clip_model.specs.History.{Registered}
-use Rattle.clip_segment.specs.Segment.{seqs_of}
+use Rattle.clip_indexed.specs.Segment.{seqs_of}
 use Rattle.clip_registry.proofs.LiveFlags.{cleared_here, cleared_nowhere}
 use Rattle.clip_registry.proofs.live_flags.clear_in.Goals as goal
 

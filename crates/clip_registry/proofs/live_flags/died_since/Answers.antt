@@ -2,7 +2,7 @@ use Rattle.std.proofs.Common.{◌≡◌, ◌<◌, ◌++◌, [], length, map, get
 use Rattle.std.proofs.Math.Seq.{take-length}
 use Rattle.std.proofs.lemmas.List.{get_or_default, length-map}
 use Rattle.std.specs.Arc.{arc_value}
-use Rattle.clip_segment.specs.Segment.{all_entries, seqs_of}
+use Rattle.clip_indexed.specs.Segment.{all_entries, seqs_of}
 use Rattle.clip_registry.specs.Steps.LiveFlags.{died, flags_of}
 use Rattle.clip_registry.proofs.Clearing.{died_more}
 use Rattle.clip_registry.proofs.LiveFlags.{as_many, flags_here, segment_at, shape_at}

@@ -6,7 +6,7 @@ use Rattle.std.proofs.lemmas.List.Elements.{Contains-append_cases}
 use Rattle.std.proofs.lemmas.Option.{slice_get-get_or, unwrap_or-slice_get}
 use Rattle.std.specs.Arc.{arc_value}
 use Rattle.std.specs.List.{Contains}
-use Rattle.clip_segment.specs.Segment.{all_entries, seqs_of}
+use Rattle.clip_indexed.specs.Segment.{all_entries, seqs_of}
 use Rattle.clip_registry.specs.Steps.LiveFlags.{flags_of}
 use Rattle.clip_registry.proofs.LiveFlags.{flag_there, flags_here, segment_at, seqs_more}
 use Rattle.clip_registry.proofs.live_flags.has_live.Goals as goal

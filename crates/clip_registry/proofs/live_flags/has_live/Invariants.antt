@@ -1,7 +1,7 @@
 use Rattle.std.proofs.Common.{map, take}
 use Rattle.std.specs.Arc.{arc_value}
 use Rattle.std.specs.List.{Contains}
-use Rattle.clip_segment.specs.Segment.{all_entries, seqs_of}
+use Rattle.clip_indexed.specs.Segment.{all_entries, seqs_of}
 use Rattle.clip_registry.proofs.live_flags.has_live.Given as goal
 
 abbrev pub invariant-loop-place : goal.invariant-loop-place

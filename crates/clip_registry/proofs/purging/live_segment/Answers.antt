@@ -1,7 +1,7 @@
 use Rattle.std.proofs.Common.{map, length, replicate, true, sym, ap, subst, ◌∙◌, append-nil}
 use Rattle.std.specs.Arc.{arc_value}
-use Rattle.clip_segment.specs.Segment.{IsRising}
-use Rattle.clip_segment.specs.Selecting.{flagged, kept_of}
+use Rattle.clip_indexed.specs.Segment.{IsRising}
+use Rattle.clip_indexed.specs.Selecting.{flagged, kept_of}
 use Rattle.clip_registry.proofs.Picked.{flagged_all, rising_flagged}
 use Rattle.clip_registry.proofs.purging.live_segment.Goals as goal
 

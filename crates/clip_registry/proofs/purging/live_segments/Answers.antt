@@ -4,7 +4,7 @@ use Rattle.std.proofs.Common.{filter, replicate, refl, sym, ap, subst, ◌∙◌
 use Rattle.std.proofs.lemmas.List.{length-map, map-append, take_all, take_more}
 use Rattle.std.proofs.lemmas.List.Elements.{filter-append}
 use Rattle.std.specs.Arc.{arc_value}
-use Rattle.clip_segment.specs.Selecting.{flagged}
+use Rattle.clip_indexed.specs.Selecting.{flagged}
 use Rattle.clip_model.specs.History.{Registered, is_live_in, replay}
 use Rattle.clip_registry.specs.Merging.{has_entries, live_of, shelf}
 use Rattle.clip_registry.specs.RegistryState.{RegistryState, IsWhole}

@@ -1,16 +1,14 @@
-use Rattle.std.proofs.Common.{◌≡◌, List, length, map, vec_items, is_some, ap, sym, ◌∙◌, subst, arith}
+use Rattle.std.proofs.Common.{◌≡◌, List, length, map, vec_items, ap, sym, ◌∙◌, subst, arith}
 use Rattle.std.specs.Arc.{arc_value}
 use Rattle.std.proofs.lemmas.List.{length-map}
 use Rattle.clip_model.specs.History.{Registered}
-use Rattle.clip_indexed.specs.Index.{IsIndexOf}
 use Rattle.clip_indexed.specs.Selecting.{kept_of}
-use Rattle.clip_indexed.specs.Segment.{IsRising, heard_of, ids_of, seqs_of, trees_of}
+use Rattle.clip_indexed.specs.Segment.{IsRising, seqs_of}
 use Rattle.clip_indexed.proofs.Flagged.{kept_few}
-use Rattle.clip_indexed.proofs.Selected.{kept_map}
 use Rattle.clip_indexed.proofs.segment.Segment.select.Goals as goal
 
 pub invariant_of-result : goal.invariant_of-result
-invariant_of-result c =
+invariant_of-result g c =
     let segments = map arc_value c.args.segments.now in
     let flags = map vec_items c.args.kept.now in
     let entries = c.in_ok-entries.entries.items in
@@ -20,11 +18,5 @@ invariant_of-result c =
       rising = subst IsRising (sym e) c.requires.rising;
       short = omega (arith, kept_few segments flags, c.requires.short, few);
       seqs = c.in_ok-seqs.ensures ∙ ap (λ es. seqs_of (map arc_value es)) c.deref.ensures.value;
-      ids = c.in_ok-labels.ensures.ids ∙ kept_map (λ (r : Registered). r.standing.id) segments flags
-          ∙ ap ids_of (sym e);
-      heard = c.in_ok-labels.ensures.heard
-          ∙ kept_map (λ (r : Registered). is_some r.standing.listener) segments flags
-          ∙ ap heard_of (sym e);
-      index = subst (λ (rs : List Registered). IsIndexOf (trees_of rs) c.in_ok-index.index) (sym e)
-          c.in_ok-index.ensures;
+      index = subst (λ (rs : List Registered). g.I.Index.is_of rs c.in_ok-index.index) (sym e) c.in_ok-index.ensures;
     }

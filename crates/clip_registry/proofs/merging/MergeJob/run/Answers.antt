@@ -2,9 +2,9 @@ use Rattle.std.proofs.Common.{◌≡◌, ◌≤◌, Bool, List, length, map, rep
 use Rattle.std.proofs.lemmas.List.Elements.{same_from_all_zip}
 use Rattle.std.specs.Arc.{arc_value}
 use Rattle.clip_merge.specs.Live.{named}
-use Rattle.clip_segment.specs.Segment.{IsRising, all_entries}
-use Rattle.clip_segment.specs.Selecting.{count_set, kept_of}
-use Rattle.clip_segment.specs.declared.segment.TheConstants.{MOST_POSITIONS}
+use Rattle.clip_indexed.specs.Segment.{IsRising, all_entries}
+use Rattle.clip_indexed.specs.Selecting.{count_set, kept_of}
+use Rattle.clip_indexed.specs.declared.segment.TheConstants.{MOST_POSITIONS}
 use Rattle.clip_model.specs.History.{Registered}
 use Rattle.clip_registry.specs.Merging.{merge_of}
 use Rattle.clip_registry.specs.Steps.LiveFlags.{flags_by, flags_of}

@@ -3,7 +3,7 @@ use Rattle.std.proofs.lemmas.List.{length-map, take-map, drop-map}
 use Rattle.std.specs.Arc.{arc_value}
 use Rattle.std.specs.List.{list_all}
 use Rattle.clip_merge.specs.Plan.{neighbours}
-use Rattle.clip_segment.specs.Segment.{all_entries}
+use Rattle.clip_indexed.specs.Segment.{all_entries}
 use Rattle.clip_model.specs.History.{is_live_in}
 use Rattle.clip_registry.specs.Merging.{Merge, StandsAt}
 use Rattle.clip_registry.specs.Merging.IsStale.{misses}

@@ -3,7 +3,7 @@ use Rattle.std.proofs.Common.{◌∙◌, arith}
 use Rattle.std.proofs.lemmas.List.{length-map, map-append, take_all, take-map, drop-map}
 use Rattle.std.proofs.lemmas.List.Elements.{same_from_all_zip}
 use Rattle.std.specs.Arc.{arc_value}
-use Rattle.clip_segment.specs.Segment.{all_entries, seqs_of}
+use Rattle.clip_indexed.specs.Segment.{all_entries, seqs_of}
 use Rattle.clip_merge.specs.Plan.{neighbours}
 use Rattle.clip_model.specs.History.{is_live_in, replay}
 use Rattle.clip_registry.specs.Merging.{Merge, shelf}

@@ -1,6 +1,6 @@
 use Rattle.std.proofs.Common.{◌≡◌, ◌-◌, ◌++◌, ◌∷◌, [], ◌<◌, ◌≤◌, sym, ap, subst, ◌∙◌, arith, length, map, append-nil}
 use Rattle.std.specs.List.{All}
-use Rattle.clip_segment.specs.Segment.{all_entries}
+use Rattle.clip_indexed.specs.Segment.{all_entries}
 use Rattle.std.specs.Arc.{arc_value}
 use Rattle.std.specs.FinMap as finite
 use Rattle.clip_model.specs.declared.limits.TheConstants.{MOST_ENTRIES, MOST_LIVE}

@@ -4,7 +4,7 @@ use Rattle.std.proofs.lemmas.List.{length-map, take_all}
 use Rattle.std.proofs.lemmas.List.Elements.{filter-append}
 use Rattle.std.proofs.lemmas.Option.{same_Some, slice_get-get_or}
 use Rattle.std.specs.Arc.{arc_value}
-use Rattle.clip_segment.specs.Segment.{IsRising, all_entries}
+use Rattle.clip_indexed.specs.Segment.{IsRising, all_entries}
 use Rattle.clip_model.specs.History.{Registered, is_live}
 use Rattle.clip_registry.specs.Steps.LiveFlags.{flags_of}
 use Rattle.clip_registry.proofs.LiveFlags.{segment_at}

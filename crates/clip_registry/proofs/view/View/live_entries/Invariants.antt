@@ -1,7 +1,7 @@
 use Rattle.std.proofs.Common.{◌≡◌, filter, map, take}
 use Rattle.std.specs.Arc.{arc_value}
 use Rattle.clip_model.specs.History.{is_live}
-use Rattle.clip_segment.specs.Segment.{all_entries}
+use Rattle.clip_indexed.specs.Segment.{all_entries}
 use Rattle.clip_registry.proofs.view.View.live_entries.Given as goal
 
 abbrev pub invariant-loop-place : goal.invariant-loop-place
