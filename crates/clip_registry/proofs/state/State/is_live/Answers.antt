@@ -10,7 +10,7 @@ use Rattle.clip_registry.proofs.LiveFlags.{live_among}
 use Rattle.clip_registry.proofs.state.State.is_live.Goals as goal
 
 pub returns : goal.returns
-returns c =
+returns g c =
     let seq = c.args.seq in
     let is = is_live_in c.self.inside.roster.registry in
     let registry = c.self.invariant.0.registry in

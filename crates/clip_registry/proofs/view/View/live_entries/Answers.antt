@@ -13,7 +13,7 @@ use Rattle.clip_registry.proofs.Whole.{entries_more}
 use Rattle.clip_registry.proofs.view.View.live_entries.Goals as goal
 
 pub loop-place-preserved : goal.loop-place-preserved
-loop-place-preserved c =
+loop-place-preserved g c =
     let state = c.args.self.now in
     let is = is_live state.history in
     let live = λ (r : Registered). is r.seq in
@@ -35,7 +35,7 @@ loop-place-preserved c =
     c.segment-item.is) ∙ filter-append live before es)
 
 pub returns-clause-rising : goal.returns-clause-rising
-returns-clause-rising c =
+returns-clause-rising g c =
     let state = c.args.self.now in
     let live = λ (r : Registered). is_live state.history r.seq in
     let items = c.segments-segment-items.result.now in
