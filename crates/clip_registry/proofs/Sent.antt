@@ -13,6 +13,7 @@ use Rattle.clip_pieces.proofs.shared.Shared.TheSendSync as shared_sent
 use Rattle.clip_pieces.proofs.shared_flags.SharedFlags.TheSendSync as flags_sent
 use Rattle.clip_indexed.proofs.Sent.{segment_send, segment_sync}
 use Rattle.clip_indexed.specs.declared.index.Index.{Ghosts}
+use Rattle.clip_indexed.specs.contracts.segment.Segment as segment
 use Rattle.clip_standing.proofs.Sent.{entry_send, entry_sync, history_entry_send, history_entry_sync}
 use Rattle.clip_registry.proofs.trail.Trail.TheSendSync as trail_sent
 use Rattle.clip_registry.specs.contracts.by_id.piece.Piece as piece
@@ -97,17 +98,23 @@ log_sync = view_sync log_inside.the_row _ _ _ _
     ))
 
 module _ (I : RattleType) (g : Ghosts I.Denot) (sent : IsSend I) (shared : IsSync I) where
+  one_send : IsSend (segment.the_row I g)
+  one_send = segment_send I g sent
+
+  one_sync : IsSync (segment.the_row I g)
+  one_sync = segment_sync I g shared
+
   state_send : IsSend (state.the_row I g)
   state_send = view_send (state_inside.the_row I g) _ _ _ _
       (declared_send (state_inside.the_type I g) (
-        search (parts, segment_send I g sent, segment_sync I g shared),
+        search (parts, one_send, one_sync),
         (log_send, (roster_send, (search parts, (search (lists, flags_sent.the_send, flags_sent.the_sync), tt)))),
       ))
 
   state_sync : IsSync (state.the_row I g)
   state_sync = view_sync (state_inside.the_row I g) _ _ _ _
       (declared_sync (state_inside.the_type I g) (
-        search (parts, segment_send I g sent, segment_sync I g shared),
+        search (parts, one_send, one_sync),
         (log_sync, (roster_sync, (search parts, (search (lists, flags_sent.the_send, flags_sent.the_sync), tt)))),
       ))
 

@@ -114,8 +114,8 @@ impl<I: Index> MergeJob<I> {
 
     /// One segment of the entries of its sources that were live when it was begun. It shares them.
     ///
-    /// `NoMemory` where an allocation failed. Cost: that of `Segment::select`, so a step for each entry of the sources,
-    /// and for each live one a step for each word and each leaf of its query.
+    /// `NoMemory` where an allocation failed, and where `Index::select` answers it. Cost: that of `Segment::select`, so a
+    /// step for each entry of the sources, and that of `Index::select`.
     pub fn run(&self) -> Result<Merged<I>, NoMemory>
         ensures { IfOk result (λ merged. merged ≡ merge_of self.now) }
     {

@@ -24,8 +24,9 @@ use std::alloc::Global;
 use std::marker::Model;
 use std::sync::Arc;
 
-/// The registry that commands change, seen as its list of segments and its history. Until the first command it has no
-/// state. Views and copies share its state, and a command puts another in its place.
+/// The registry that commands change, seen as its list of segments and its history; each segment keeps an index over
+/// its entries. Until the first command it has no state. Views and copies share its state, and a command puts another
+/// in its place.
 #[derive(Drop)]
 pub struct Registrar<I: Index> {
     alloc: Global,
@@ -101,9 +102,9 @@ impl<I: Index> Registrar<I> {
     /// `MOST_ENTRIES` commands were accepted, judged before any memory is taken, or where more than `MOST_LIVE` queries
     /// would then be registered, and `NoMemory` where an allocation failed.
     ///
-    /// A register costs the extraction of the keys of each listed query, and for each a search among the registered
-    /// ids, and where it lists an id twice also that of `Segment::select` over what it lists; a delete costs such a
-    /// search for each listed id; a clear costs the dropping of what no view holds.
+    /// A register costs what `Segment::build` does over the listed queries, so that of `Index::of`, and for each a
+    /// search among the registered ids, and where it lists an id twice also that of `Segment::select` over what it
+    /// lists; a delete costs such a search for each listed id; a clear costs the dropping of what no view holds.
     ///
     /// A command is done to a copy of the registry, which shares all that the command leaves as it is. The copy costs
     /// a step for each segment, one for each 16,384 history entries that are kept, and one for each piece of the map by
