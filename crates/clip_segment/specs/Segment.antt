@@ -1,4 +1,4 @@
--- The entries of segments, and the positions at which they hold keys.
+-- What the index of a segment has of its entries, and the positions at which they hold keys.
 use Rattle.std.specs.Prelude.{ℕ, Bool, List, map, filter, is_some}
 use Rattle.std.specs.List.{enumerate_from, list_any}
 use Rattle.clip_extract.specs.Extraction.{query_keys}

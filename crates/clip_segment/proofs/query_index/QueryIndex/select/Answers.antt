@@ -6,7 +6,7 @@ use Rattle.clip_segment.specs.Index.{query_positions_with}
 use Rattle.clip_indexed.specs.Selecting.{kept_of}
 use Rattle.clip_segment.specs.Steps.Parts.{AreFrom, taken}
 use Rattle.clip_indexed.proofs.Flagged.{kept_few}
-use Rattle.clip_segment.proofs.index.Index.select.Goals as goal
+use Rattle.clip_segment.proofs.query_index.QueryIndex.select.Goals as goal
 
 pub returns : goal.returns
 returns c =

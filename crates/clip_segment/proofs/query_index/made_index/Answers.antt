@@ -2,7 +2,7 @@ use Rattle.std.proofs.Common.{◌≡◌, length, sym, ap, ◌∙◌, arith}
 use Rattle.std.proofs.lemmas.List.{length-map}
 use Rattle.clip_plan.specs.Plan.{decoded, plan_of}
 use Rattle.clip_segment.proofs.Seconds.{needs_are}
-use Rattle.clip_segment.proofs.index.made_index.Goals as goal
+use Rattle.clip_segment.proofs.query_index.made_index.Goals as goal
 
 pub returns : goal.returns
 returns c = λ trees short terms_are made.

@@ -5,7 +5,7 @@ use Rattle.clip_segment.specs.Index.{IsIndexOf}
 use Rattle.clip_segment.specs.Steps.IndexView.{index_of}
 use Rattle.clip_segment.proofs.Answering.{list_of_key, no_number}
 use Rattle.clip_segment.proofs.Asked.{keys_asked}
-use Rattle.clip_segment.proofs.index.Index.with_key.Goals as goal
+use Rattle.clip_segment.proofs.query_index.QueryIndex.with_key.Goals as goal
 
 pub returns-in-Some : goal.returns-in-Some
 returns-in-Some c trees is =

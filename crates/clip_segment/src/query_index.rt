@@ -1,12 +1,12 @@
 //! Indexes.
 ghost use Rattle.std.specs.Prelude.{◌≡◌, ◌≤◌, IfOk, List, length, map, vec_items};
+ghost use Rattle.std.specs.List.{AllZip};
 ghost use Rattle.clip_grammar.specs.Tree.{Tree, tree_of};
 ghost use Rattle.clip_extract.specs.Keys.{key_of};
 ghost use Rattle.clip_extract.specs.Extraction.{query_keys};
 ghost use Rattle.clip_segment.specs.Index.{IsIndexOf, query_positions_with, terms_of};
 ghost use Rattle.clip_segment.specs.Steps.Parts.{AreMadeOf};
 ghost use Rattle.clip_indexed.specs.Selecting.{AreFlagsOf, count_set, kept_of};
-ghost use Rattle.clip_segment.specs.Selecting.{AreIndexesOf};
 ghost use Rattle.clip_indexed.specs.declared.segment.TheConstants.{MOST_POSITIONS};
 
 use crate::building::{lists_of, plans_of, terms_of, with_keys};
@@ -26,7 +26,7 @@ use std::marker::Model;
 /// kept. Contracts see its terms, the positions under each as a key and as a second key, for each query whether it has
 /// second keys, and the plans, and say of which queries it is the index (`IsIndexOf`).
 #[derive(Debug, Drop)]
-pub(crate) struct Index {
+pub(crate) struct QueryIndex {
     pub(crate) terms: Terms,
     pub(crate) positions: PackedLists<u32>,
     pub(crate) seconds: PackedLists<u32>,
@@ -34,7 +34,7 @@ pub(crate) struct Index {
     pub(crate) plans: Plans,
 }
 
-impl Model for Index {
+impl Model for QueryIndex {
     ghost use Rattle.std.specs.Coded.{codes};
     ghost use Rattle.clip_grammar.specs.TreeCode.{tree_code};
     ghost use Rattle.clip_segment.specs.Index.{IndexValue};
@@ -54,12 +54,12 @@ fn made_index(
     positions: PackedLists<u32>,
     seconds: PackedLists<u32>,
     plans: Plans,
-) -> Result<Index, NoMemory>
+) -> Result<QueryIndex, NoMemory>
     ensures { IfOk result (λ index. (trees : List Tree) → length trees ≤ MOST_POSITIONS → terms ≡ terms_of trees
         → AreMadeOf terms trees positions seconds plans → IsIndexOf trees index) }
 {
     let needs = marks_of(alloc, &seconds, plans.len())?;
-    Ok(Index {
+    Ok(QueryIndex {
         terms,
         positions,
         seconds,
@@ -68,14 +68,14 @@ fn made_index(
     })
 }
 
-impl Index {
+impl QueryIndex {
     /// The index of these queries, of which there are at most `MOST_POSITIONS`.
     ///
     /// `NoMemory` where an allocation failed, and where the queries have more than 4,294,967,295 terms. Cost: an
     /// extraction of each query's keys and second keys, a sort of these and of the words of all, and a binary search
     /// for each of them.
     /// No text is copied but ends of ranges.
-    pub(crate) fn of(alloc: Global, queries: &[Query]) -> Result<Index, NoMemory>
+    pub(crate) fn of(alloc: Global, queries: &[Query]) -> Result<QueryIndex, NoMemory>
         requires { length queries.now ≤ MOST_POSITIONS }
         ensures { IfOk result (λ index. IsIndexOf (map tree_of queries.now) index) }
     {
@@ -97,12 +97,12 @@ impl Index {
     /// No key is extracted, and no text is copied but ends of ranges.
     pub(crate) fn select(
         alloc: Global,
-        indexes: &[&Index],
+        indexes: &[&QueryIndex],
         kept: &[Vec<bool>],
-    ) -> Result<Index, NoMemory>
+    ) -> Result<QueryIndex, NoMemory>
         requires { count_set (map vec_items kept.now) ≤ MOST_POSITIONS }
         ensures { IfOk result (λ index. (trees : List (List Tree))
-            → AreIndexesOf trees (map (λ i. i.now) indexes.now) → AreFlagsOf trees (map vec_items kept.now)
+            → AllZip IsIndexOf trees (map (λ i. i.now) indexes.now) → AreFlagsOf trees (map vec_items kept.now)
             → IsIndexOf (kept_of trees (map vec_items kept.now)) index) }
     {
         let terms = kept_terms(alloc, indexes, kept)?;

@@ -3,7 +3,7 @@ use Rattle.std.proofs.lemmas.List.{length-map}
 use Rattle.std.proofs.lemmas.Result.{IfOk-weaker}
 use Rattle.clip_grammar.specs.Tree.{Tree, tree_of}
 use Rattle.clip_segment.specs.Steps.Parts.{AreListsOf}
-use Rattle.clip_segment.proofs.index.Index.of.Goals as goal
+use Rattle.clip_segment.proofs.query_index.QueryIndex.of.Goals as goal
 
 pub returns : goal.returns
 returns c =

@@ -8,13 +8,13 @@ use Rattle.clip_segment.proofs.Answering.{sharing}
 use Rattle.clip_segment.proofs.Asked.{seconds_asked}
 use Rattle.clip_segment.proofs.Counting.{read_under}
 use Rattle.clip_segment.proofs.Seconds.{index_read, index_seconds}
-use Rattle.clip_segment.proofs.segment.Segment.read.Goals as goal
+use Rattle.clip_segment.proofs.reading.SegmentReading.of.Goals as goal
 
 pub invariant_of-result : goal.invariant_of-result
 invariant_of-result c =
-    let trees = trees_of c.args.self.now in
-    let index = index_of c.index.inside in
-    let is : IsIndexOf trees index = subst (IsIndexOf trees) (sym c.index.view_is) c.index-index.ensures in
+    let trees = trees_of c.args.segment.now in
+    let index = index_of c.queries.inside in
+    let is : IsIndexOf trees index = subst (IsIndexOf trees) (sym c.queries.view_is) c.index.ensures.queries in
     let reading = c.in_ok-reading.reading in
     let same : index.terms ≡ reading.terms = sym (ap (λ r. r.terms) c.in_ok-reading.ensures) in
     record {
@@ -28,9 +28,9 @@ invariant_of-result c =
 
 pub returns-clause-counted : goal.returns-clause-counted
 returns-clause-counted c =
-    let trees = trees_of c.args.self.now in
-    let index = index_of c.index.inside in
-    let is : IsIndexOf trees index = subst (IsIndexOf trees) (sym c.index.view_is) c.index-index.ensures in
+    let trees = trees_of c.args.segment.now in
+    let index = index_of c.queries.inside in
+    let is : IsIndexOf trees index = subst (IsIndexOf trees) (sym c.queries.view_is) c.index.ensures.queries in
     let reading = c.in_ok-reading.reading in
     let same : index.terms ≡ reading.terms = sym (ap (λ r. r.terms) c.in_ok-reading.ensures) in
     let numbers = c.numbers in
