@@ -2,7 +2,7 @@
 use Rattle.std.proofs.Common.{◌≡◌, ℕ, zero, suc, ◌+◌, ◌<◌, ◌≤◌, Bool, true, false, cond, ◌||◌, ◌&&◌, nat_eq, ltb, List}
 use Rattle.std.proofs.Common.{[], ◌∷◌, ◌++◌, length, map, flat_map, filter, take, drop, set, replicate, get_or}
 use Rattle.std.proofs.Common.{unwrap_or, slice_get, Option, Some, None, refl, sym, ap, ap₂, ◌∙◌, arith, add-one}
-use Rattle.std.proofs.Common.{append-nil, append_assoc, length-append, eq-eqb, ne_eqb}
+use Rattle.std.proofs.Common.{append-nil, append_assoc, eq-eqb, ne_eqb}
 use Rattle.std.proofs.Common.{inl, inr}
 use Rattle.std.specs.Prelude.{option_to_list}
 use Rattle.std.specs.List.{AllByRecursion, list_any, enumerate_from, count_by}
@@ -11,7 +11,7 @@ use Rattle.std.specs.declared.cmp.Ordering.TheVariants.{Less}
 use Rattle.std.proofs.Math.Bool.{or-true, or-false}
 use Rattle.std.proofs.lemmas.Bool.{cases_eq, false≢true}
 use Rattle.std.proofs.lemmas.Bool.Decides.{nat_tests}
-use Rattle.std.proofs.lemmas.List.{drop_all}
+use Rattle.std.proofs.lemmas.List.{drop_all, get_or-map}
 use Rattle.std.proofs.lemmas.List.Folds.{list_any_more}
 use Rattle.std.proofs.lemmas.List.Sums.{sum_by-cons}
 use Rattle.std.proofs.lemmas.Option.{unwrap_or-slice_get}
@@ -19,7 +19,7 @@ use Rattle.clip_grammar.specs.Tree.{Tree}
 use Rattle.clip_grammar.proofs.Booleans.{either}
 use Rattle.clip_extract.specs.Keys.{KeyValue, key_cmp}
 use Rattle.clip_segment.specs.Index.{query_positions}
-use Rattle.clip_segment.specs.Selecting.{flagged, kept_of, count_set}
+use Rattle.clip_indexed.specs.Selecting.{flagged, kept_of, count_set}
 use Rattle.clip_segment.specs.Steps.Parts.{flag_at, moved, new_position, new_positions}
 
 -- nothing is kept of none
@@ -97,19 +97,6 @@ flagged_rises (false ∷ flags) (k ∷ ks) rising = flagged_rises flags ks risin
 pub none_rise : IsStrictlySortedBy key_cmp []
 unfolding IsStrictlySortedBy
 none_rise = tt
-
--- how many flags are set, the first and those behind it
-pub count_first : (flag : Bool) (flags : List Bool) → count_by (λ flag. flag) (flag ∷ flags)
-    ≡ cond flag 1 0 + count_by (λ flag. flag) flags
-count_first flag flags = sum_by-cons (λ (x : Bool). cond x 1 0) flag flags
-
--- at most as many are kept as flags are set
-pub flagged_few : {A : Type 0} (flags : List Bool) (xs : List A)
-    → length (flagged flags xs) ≤ count_by (λ flag. flag) flags
-flagged_few [] xs = omega arith
-flagged_few (flag ∷ flags) [] = omega arith
-flagged_few (true ∷ flags) (x ∷ xs) = omega (arith, flagged_few flags xs, count_first true flags)
-flagged_few (false ∷ flags) (x ∷ xs) = omega (arith, flagged_few flags xs, count_first false flags)
 
 -- ---- members
 
@@ -247,16 +234,43 @@ positions_moved test before flags trees first at long =
 
 -- ---- several lists
 
-pub kept_more : {A : Type 0} (lists : List (List A)) (flags : List (List Bool)) (i : ℕ) → i < length lists
-    → i < length flags
+-- what is kept of one list more
+pub kept_more : {A : Type 0} (lists : List (List A)) (flags : List (List Bool)) (i : ℕ)
     → kept_of (take (suc i) lists) (take (suc i) flags) ≡ kept_of (take i lists) (take i flags)
     ++ flagged (unwrap_or (slice_get flags i) []) (unwrap_or (slice_get lists i) [])
-kept_more [] flags i lt there = absurd (omega arith)
-kept_more (xs ∷ lists) [] i lt there = absurd (omega arith)
-kept_more (xs ∷ lists) (fs ∷ flags) zero lt there = append-nil (flagged fs xs)
-kept_more (xs ∷ lists) (fs ∷ flags) (suc i) lt there =
-    ap (λ l. flagged fs xs ++ l) (kept_more lists flags i (omega arith) (omega arith))
+kept_more [] flags zero = sym (flagged_none (unwrap_or (slice_get flags 0) []))
+kept_more [] flags (suc i) = sym (flagged_none (unwrap_or (slice_get flags (suc i)) []))
+kept_more (xs ∷ lists) [] zero = refl
+kept_more (xs ∷ lists) [] (suc i) = refl
+kept_more (xs ∷ lists) (fs ∷ flags) zero = append-nil (flagged fs xs)
+kept_more (xs ∷ lists) (fs ∷ flags) (suc i) =
+    ap (λ l. flagged fs xs ++ l) (kept_more lists flags i)
     ∙ sym (append_assoc (flagged fs xs) (kept_of (take i lists) (take i flags)) _)
+
+-- what is kept of all
+pub kept_whole : {A : Type 0} (lists : List (List A)) (flags : List (List Bool)) (i : ℕ) → length lists ≤ i
+    → kept_of (take i lists) (take i flags) ≡ kept_of lists flags
+kept_whole [] flags zero le = refl
+kept_whole [] flags (suc i) le = refl
+kept_whole (xs ∷ lists) flags zero le = absurd (omega arith)
+kept_whole (xs ∷ lists) [] (suc i) le = refl
+kept_whole (xs ∷ lists) (fs ∷ flags) (suc i) le =
+    ap (λ l. flagged fs xs ++ l) (kept_whole lists flags i (omega arith))
+
+-- what is kept of the lists of one item more
+pub kept_after : {R A : Type 0} (seen : R → List A) (items : List R) (flags : List (List Bool)) (i place : ℕ) (x : R)
+    (now : List Bool) (before after : List A) → i < length items → x ≡ get_or items i x → place ≡ i
+    → now ≡ unwrap_or (slice_get flags place) [] → before ≡ kept_of (take i (map seen items)) (take i flags)
+    → after ≡ before ++ flagged now (seen x) → after ≡ kept_of (take (i + 1) (map seen items)) (take (i + 1) flags)
+kept_after seen items flags i place x now before after lt is at are so e =
+    let lists = map seen items in
+    let here : unwrap_or (slice_get lists i) [] ≡ seen x =
+    unwrap_or-slice_get lists i [] ∙ get_or-map seen items i x [] lt ∙ ap seen (sym is) in
+    rw add-one (
+    e ∙ ap (λ l. l ++ flagged now (seen x)) so
+    ∙ ap₂ (λ fs xs. kept_of (take i lists) (take i flags) ++ flagged fs xs)
+    (are ∙ ap (λ k. unwrap_or (slice_get flags k) []) at) (sym here)
+    ∙ sym (kept_more lists flags i))
 
 -- the flags of one list, and of those behind it
 pub count_from : (flags : List (List Bool)) (i : ℕ)
@@ -275,19 +289,6 @@ few_next flags i place n bound now is at few =
     let same : count_by (λ (flag : Bool). flag) now ≡ count_by (λ flag. flag) (unwrap_or (slice_get flags i) []) =
     ap (count_by (λ flag. flag)) (is ∙ ap (λ k. unwrap_or (slice_get flags k) []) at) in
     rw add-one (omega (arith, count_from flags i, same, few))
-
-pub kept_few : {A : Type 0} (lists : List (List A)) (flags : List (List Bool)) → length (kept_of lists flags)
-    ≤ count_set flags
-kept_few [] flags = omega arith
-kept_few (xs ∷ lists) [] = omega arith
-kept_few (xs ∷ lists) (fs ∷ flags) =
-    omega (
-      arith,
-      length-append (flagged fs xs) (kept_of lists flags),
-      flagged_few fs xs,
-      kept_few lists flags,
-      count_from (fs ∷ flags) 0,
-    )
 
 -- ---- flags that are set
 

@@ -1,11 +1,13 @@
 -- The kept entries of segments, and the indexes over their queries.
-use Rattle.std.proofs.Common.{◌≡◌, Bool, true, false, List, [], ◌∷◌, ◌++◌, map, length, refl, sym, ap, ◌∙◌}
+use Rattle.std.proofs.Common.{◌≡◌, Bool, true, false, List, [], ◌∷◌, ◌++◌, map, length, refl, sym, ap, ap₂, ◌∙◌}
 use Rattle.std.proofs.lemmas.List.{length-map, map-append}
-use Rattle.clip_grammar.specs.Tree.{Tree}
-use Rattle.clip_segment.specs.Index.{IndexValue, IsIndexOf}
-use Rattle.clip_segment.specs.Selecting.{AreFlagsOf, AreIndexesOf, flagged, kept_of}
+use Rattle.std.specs.List.{AllZip}
+use Rattle.clip_indexed.specs.Selecting.{AreFlagsOf, AreIndexesOf, flagged, kept_of}
 use Rattle.clip_model.specs.History.{Registered}
-use Rattle.clip_segment.specs.Segment.{trees_of}
+use Rattle.clip_segment.specs.Index.{IsIndexOf}
+use Rattle.clip_segment.specs.Segment.{heard_of, ids_of, trees_of}
+use Rattle.clip_segment.specs.Steps.LabelledView.{IsLabelledIndexOf}
+use Rattle.clip_segment.specs.declared.labelled_index.LabelledIndex.{LabelledIndex}
 
 -- what is taken of the items whose flags are set
 flagged_map : {A B : Type 0} (f : A → B) (flags : List Bool) (xs : List A)
@@ -24,19 +26,38 @@ kept_map f (xs ∷ lists) (flags ∷ more) =
     ∙ ap (λ ys. map f (flagged flags xs) ++ ys) (kept_map f lists more)
     ∙ sym (map-append f (flagged flags xs) (kept_of lists more))
 
-lengths : (segments : List (List Registered)) → map length (map trees_of segments) ≡ map length segments
+lengths : (lists : List (List Registered)) → map length (map trees_of lists) ≡ map length lists
 lengths [] = refl
-lengths (segment ∷ segments) = λ i. length-map segment (λ (e : Registered). e.standing.tree) i ∷ lengths segments i
+lengths (entries ∷ lists) = λ i. length-map entries (λ (e : Registered). e.standing.tree) i ∷ lengths lists i
 
 -- flags of entries are flags of their queries
-pub flags_of_trees : (segments : List (List Registered)) (flags : List (List Bool)) → AreFlagsOf segments flags
-    → AreFlagsOf (map trees_of segments) flags
-flags_of_trees segments flags are = are ∙ sym (lengths segments)
+pub flags_of_trees : (lists : List (List Registered)) (flags : List (List Bool)) → AreFlagsOf lists flags
+    → AreFlagsOf (map trees_of lists) flags
+flags_of_trees lists flags are = are ∙ sym (lengths lists)
 
--- one index more
-pub one_more : (trees : List (List Tree)) (indexes : List IndexValue) (next : List Tree) (index : IndexValue)
-    → AreIndexesOf trees indexes → IsIndexOf next index → AreIndexesOf (trees ++ next ∷ []) (indexes ++ index ∷ [])
-one_more [] [] next index are is = (is, tt)
-one_more [] (i ∷ indexes) next index are is = absurd are
-one_more (t ∷ trees) [] next index are is = absurd are
-one_more (t ∷ trees) (i ∷ indexes) next index are is = (are.0, one_more trees indexes next index are.1 is)
+-- ---- what several indexes keep of lists of entries
+
+module _ {R : Type 0} (seen : R → LabelledIndex) where
+  pub ids_of_all : (lists : List (List Registered)) (items : List R)
+      → AreIndexesOf IsLabelledIndexOf lists (map seen items)
+      → map (λ r. (seen r).labels.ids) items ≡ map ids_of lists
+  ids_of_all [] [] are = refl
+  ids_of_all [] (r ∷ items) are = absurd are
+  ids_of_all (es ∷ lists) [] are = absurd are
+  ids_of_all (es ∷ lists) (r ∷ items) are = ap₂ (λ x xs. x ∷ xs) are.0.ids (ids_of_all lists items are.1)
+
+  pub heard_of_all : (lists : List (List Registered)) (items : List R)
+      → AreIndexesOf IsLabelledIndexOf lists (map seen items)
+      → map (λ r. (seen r).labels.heard.items) items ≡ map heard_of lists
+  heard_of_all [] [] are = refl
+  heard_of_all [] (r ∷ items) are = absurd are
+  heard_of_all (es ∷ lists) [] are = absurd are
+  heard_of_all (es ∷ lists) (r ∷ items) are = ap₂ (λ x xs. x ∷ xs) are.0.heard (heard_of_all lists items are.1)
+
+  pub queries_of_all : (lists : List (List Registered)) (items : List R)
+      → AreIndexesOf IsLabelledIndexOf lists (map seen items)
+      → AllZip IsIndexOf (map trees_of lists) (map (λ r. (seen r).queries) items)
+  queries_of_all [] [] are = tt
+  queries_of_all [] (r ∷ items) are = absurd are
+  queries_of_all (es ∷ lists) [] are = absurd are
+  queries_of_all (es ∷ lists) (r ∷ items) are = (are.0.queries, queries_of_all lists items are.1)

@@ -1,23 +1,20 @@
--- Threads may hand over and share segments, and the indexes in them.
+-- Threads may hand over and share the indexes of segments.
 use denote.Param.Send.{IsSend, IsSync, view_send, view_sync, sendable}
 use denote.Param.SendFields.{declared_send, declared_sync}
 use Rattle.std.proofs.alloc.Global.TheSendSync as global_sent
 use Rattle.std.below.std_heap.proofs.GlobalAllocator.TheSendSync as allocator_sent
 use Rattle.std.proofs.string.String.TheSendSync as string_sent
-use Rattle.std.proofs.sync.Arc.TheSendSync as arc_sent
 use Rattle.std.proofs.vec.Vec.TheSendSync as vec_sent
 use Rattle.clip_pieces.proofs.marks.Marks.TheSendSync as marks_sent
 use Rattle.clip_pieces.proofs.packed.PackedLists.TheSendSync as lists_sent
 use Rattle.clip_terms.proofs.terms.Terms.TheSendSync as terms_sent
 use Rattle.clip_plan.proofs.Sent.{plans_send, plans_sync}
-use Rattle.clip_standing.proofs.Sent.{entry_send, entry_sync}
-use Rattle.clip_segment.specs.contracts.index.Index as index
-use Rattle.clip_segment.specs.contracts.index.Index.TheInside as index_inside
+use Rattle.clip_segment.specs.contracts.query_index.QueryIndex as index
+use Rattle.clip_segment.specs.contracts.query_index.QueryIndex.TheInside as index_inside
+use Rattle.clip_segment.specs.contracts.labelled_index.LabelledIndex as labelled_index
 use Rattle.clip_segment.specs.contracts.labels.Labels as labels
 use Rattle.clip_segment.specs.contracts.packed_texts.PackedTexts as texts
 use Rattle.clip_segment.specs.contracts.packed_texts.PackedTexts.TheInside as texts_inside
-use Rattle.clip_segment.specs.contracts.segment.Segment as segment
-use Rattle.clip_segment.specs.contracts.segment.Segment.TheInside as segment_inside
 
 ruleset global = (sendable, global_sent.the_send, global_sent.the_sync, allocator_sent.the_frees)
 
@@ -61,16 +58,8 @@ labels_send = declared_send labels.the_type (texts_send, (search (global, vec_se
 labels_sync : IsSync labels.the_row
 labels_sync = declared_sync labels.the_type (texts_sync, (search (global, vec_sent.the_sync), tt))
 
-pub segment_send : IsSend segment.the_row
-segment_send = view_send segment_inside.the_row _ _ _ _
-    (declared_send segment_inside.the_type (
-      search (global, vec_sent.the_send, arc_sent.the_send, entry_send, entry_sync),
-      (search (global, vec_sent.the_send), (labels_send, (index_send, tt))),
-    ))
+pub labelled_index_send : IsSend labelled_index.the_row
+labelled_index_send = declared_send labelled_index.the_type (labels_send, (index_send, tt))
 
-pub segment_sync : IsSync segment.the_row
-segment_sync = view_sync segment_inside.the_row _ _ _ _
-    (declared_sync segment_inside.the_type (
-      search (global, vec_sent.the_sync, arc_sent.the_sync, entry_send, entry_sync),
-      (search (global, vec_sent.the_sync), (labels_sync, (index_sync, tt))),
-    ))
+pub labelled_index_sync : IsSync labelled_index.the_row
+labelled_index_sync = declared_sync labelled_index.the_type (labels_sync, (index_sync, tt))

@@ -1,4 +1,3 @@
 pub mod Index
 pub mod Segment
-pub mod Selecting
 pub mod Steps

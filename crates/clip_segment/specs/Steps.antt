@@ -1,7 +1,7 @@
 -- Private fields as contracts see them, and steps of the work; no public clause cites it.
 pub mod IndexView
+pub mod LabelledView
 pub mod Parts
 pub mod ReadingView
-pub mod SegmentView
 pub mod SpotsView
 pub mod TextsView

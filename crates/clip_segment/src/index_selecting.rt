@@ -2,20 +2,20 @@
 //! renumbered.
 ghost use Rattle.std.specs.Prelude.{◌≡◌, ◌+◌, ◌≤◌, ◌<◌, ◌++◌, ◌∷◌, [], ℕ, Bool, Option, Some, None, List};
 ghost use Rattle.std.specs.Prelude.{IfOk, OnOk, IsTrue, length, map, flat_map, set, unwrap_or, slice_get, vec_items};
-ghost use Rattle.std.specs.List.{count_by};
+ghost use Rattle.std.specs.List.{AllZip, count_by};
 ghost use Rattle.std.specs.List.Sorted.{IsStrictlySortedBy};
 ghost use Rattle.clip_grammar.specs.Tree.{Tree};
 ghost use Rattle.clip_extract.specs.Keys.{KeyValue, key_cmp};
 ghost use Rattle.clip_terms.specs.Terms.{number_of, term_at};
 ghost use Rattle.clip_plan.specs.Plan.{are_terms, decoded, renamed};
 ghost use Rattle.clip_segment.specs.Index.{IsIndexOf, asked_of, terms_of};
-ghost use Rattle.clip_segment.specs.Selecting.{AreFlagsOf, AreIndexesOf, count_set, flagged, kept_of};
+ghost use Rattle.clip_indexed.specs.Selecting.{AreFlagsOf, count_set, flagged, kept_of};
 ghost use Rattle.clip_segment.specs.Steps.Parts.{AreFrom, listed, lists_by, moved, new_position, new_positions, taken};
 ghost use Rattle.clip_segment.specs.declared.index_selecting.Source.{Source};
-ghost use Rattle.clip_segment.specs.declared.segment.TheConstants.{MOST_POSITIONS};
+ghost use Rattle.clip_indexed.specs.declared.segment.TheConstants.{MOST_POSITIONS};
 
-use crate::index::Index;
 use crate::kept_terms::{flag_at, flags_of};
+use crate::query_index::QueryIndex;
 use clip_pieces::PackedLists;
 use clip_plan::Plans;
 use clip_terms::Terms;
@@ -26,7 +26,7 @@ use std::alloc::Global;
 /// here, and for each position here the new one.
 #[derive(Drop)]
 pub(crate) struct Source<'a> {
-    index: &'a Index,
+    index: &'a QueryIndex,
     numbers: Vec<Option<u32>>,
     moves: Vec<Option<u32>>,
 }
@@ -133,7 +133,7 @@ fn add_plans(
 fn source_of<'a>(
     alloc: Global,
     terms: &Terms,
-    index: &'a Index,
+    index: &'a QueryIndex,
     kept: &[bool],
     plans: &mut Plans,
 ) -> Result<Source<'a>, NoMemory>
@@ -161,14 +161,14 @@ fn source_of<'a>(
 pub(crate) fn sources_of<'a>(
     alloc: Global,
     terms: &Terms,
-    indexes: &[&'a Index],
+    indexes: &[&'a QueryIndex],
     kept: &[Vec<bool>],
     plans: &mut Plans,
 ) -> Result<Vec<Source<'a>>, NoMemory>
     requires rising { IsStrictlySortedBy key_cmp terms.now }
     requires few { length plans.old + count_set (map vec_items kept.now) ≤ MOST_POSITIONS }
     ensures { IfOk result (λ sources. (trees : List (List Tree))
-        → AreIndexesOf trees (map (λ i. i.now) indexes.now) → AreFlagsOf trees (map vec_items kept.now)
+        → AllZip IsIndexOf trees (map (λ i. i.now) indexes.now) → AreFlagsOf trees (map vec_items kept.now)
         → terms.now ≡ terms_of (kept_of trees (map vec_items kept.now))
         → AreFrom terms.now [] [] plans.old
         → AreFrom terms.now (kept_of trees (map vec_items kept.now)) sources.items plans.new) }
@@ -183,7 +183,7 @@ pub(crate) fn sources_of<'a>(
 }
 
 /// The lists of an index by second keys, or those by keys.
-fn lists_by(index: &Index, second: bool) -> &PackedLists<u32>
+fn lists_by(index: &QueryIndex, second: bool) -> &PackedLists<u32>
     ensures { result.now ≡ lists_by second index.now }
 {
     if second {

@@ -1,16 +1,16 @@
 //! The terms of the queries that are kept of several indexes.
 ghost use Rattle.std.specs.Prelude.{◌≡◌, ◌++◌, ◌||◌, ◌<◌, ◌∷◌, [], ℕ, List, IfOk, OnOk, length, map, flat_map, nat_eq};
 ghost use Rattle.std.specs.Prelude.{unwrap_or, slice_get, vec_items};
-ghost use Rattle.std.specs.List.{list_any};
+ghost use Rattle.std.specs.List.{AllZip, list_any};
 ghost use Rattle.std.specs.List.Sorted.{IsStrictlySortedBy};
 ghost use Rattle.clip_grammar.specs.Tree.{Tree};
 ghost use Rattle.clip_extract.specs.Keys.{KeyValue, key_of, key_cmp, is_same};
 ghost use Rattle.clip_plan.specs.Plan.{names};
 ghost use Rattle.clip_segment.specs.Index.{IsIndexOf, asked_of, terms_of};
-ghost use Rattle.clip_segment.specs.Selecting.{AreFlagsOf, AreIndexesOf, flagged, kept_of};
+ghost use Rattle.clip_indexed.specs.Selecting.{AreFlagsOf, flagged, kept_of};
 ghost use Rattle.clip_segment.specs.Steps.Parts.{flag_at};
 
-use crate::index::Index;
+use crate::query_index::QueryIndex;
 use clip_pieces::PackedLists;
 use clip_plan::Plans;
 use clip_terms::{Head, Terms, merged};
@@ -117,7 +117,11 @@ fn flagged_heads<'a>(
 }
 
 /// The terms of an index that its kept queries ask for.
-fn kept_heads<'a>(alloc: Global, index: &'a Index, kept: &[bool]) -> Result<Vec<Head<'a>>, NoMemory>
+fn kept_heads<'a>(
+    alloc: Global,
+    index: &'a QueryIndex,
+    kept: &[bool],
+) -> Result<Vec<Head<'a>>, NoMemory>
     ensures rising { IfOk result (λ heads. IsStrictlySortedBy key_cmp heads.items) }
     ensures asked { IfOk result (λ heads. (trees : List Tree) → IsIndexOf trees index.now → (key : KeyValue)
         → list_any (is_same key) heads.items
@@ -134,11 +138,11 @@ fn kept_heads<'a>(alloc: Global, index: &'a Index, kept: &[bool]) -> Result<Vec<
 /// The terms of the kept queries of several indexes.
 pub(crate) fn kept_terms(
     alloc: Global,
-    indexes: &[&Index],
+    indexes: &[&QueryIndex],
     kept: &[Vec<bool>],
 ) -> Result<Terms, NoMemory>
     ensures rising { IfOk result (λ terms. IsStrictlySortedBy key_cmp terms) }
-    ensures terms { IfOk result (λ terms. (trees : List (List Tree)) → AreIndexesOf trees (map (λ i. i.now) indexes.now)
+    ensures terms { IfOk result (λ terms. (trees : List (List Tree)) → AllZip IsIndexOf trees (map (λ i. i.now) indexes.now)
         → AreFlagsOf trees (map vec_items kept.now) → terms ≡ terms_of (kept_of trees (map vec_items kept.now))) }
 {
     let mut heads = Vec::new(alloc);

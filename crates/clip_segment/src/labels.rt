@@ -2,10 +2,11 @@
 ghost use Rattle.std.specs.Prelude.{◌≡◌, ◌∷◌, ◌++◌, [], IfOk, OnOk, map, vec_items};
 ghost use Rattle.std.specs.Arc.{arc_value};
 ghost use Rattle.clip_segment.specs.Segment.{ids_of, heard_of};
-ghost use Rattle.clip_segment.specs.Selecting.{flagged, kept_of};
+ghost use Rattle.clip_indexed.specs.Selecting.{flagged, kept_of};
 
+use crate::kept_terms::flags_of;
+use crate::labelled_index::LabelledIndex;
 use crate::packed_texts::PackedTexts;
-use crate::segment::Segment;
 use clip_standing::Entry;
 use clip_words::NoMemory;
 use std::alloc::Global;
@@ -56,14 +57,13 @@ impl Labels {
         Ok(labels)
     }
 
-    /// These, and behind them those of the entries of a segment whose flags are set.
-    fn with_flagged(self, segment: &Segment, flags: &[bool]) -> Result<Labels, NoMemory>
-        ensures ids { IfOk result (λ labels. labels.ids ≡ self.ids ++ flagged flags.now (ids_of segment.now)) }
+    /// These, and behind them those of others whose flags are set.
+    fn with_flagged(self, others: &Labels, flags: &[bool]) -> Result<Labels, NoMemory>
+        ensures ids { IfOk result (λ labels. labels.ids ≡ self.ids ++ flagged flags.now others.now.ids) }
         ensures heard { IfOk result (λ labels. labels.heard.items
-            ≡ self.heard.items ++ flagged flags.now (heard_of segment.now)) }
+            ≡ self.heard.items ++ flagged flags.now others.now.heard.items) }
     {
         let Labels { ids, mut heard } = self;
-        let others = segment.labels();
         add_flagged_copies(&others.heard, flags, &mut heard)?;
         Ok(Labels {
             ids: ids.with_flagged(&others.ids, flags)?,
@@ -71,27 +71,22 @@ impl Labels {
         })
     }
 
-    /// Those of the kept entries of these segments, in order. No entry is looked at.
+    /// Those of the kept entries of these indexes, in order. No entry is looked at.
     pub(crate) fn kept(
         alloc: Global,
-        segments: &[Arc<Segment>],
+        sources: &[&LabelledIndex],
         kept: &[Vec<bool>],
     ) -> Result<Labels, NoMemory>
         ensures ids { IfOk result (λ labels.
-            labels.ids ≡ kept_of (map ids_of (map arc_value segments.now)) (map vec_items kept.now)) }
+            labels.ids ≡ kept_of (map (λ s. s.now.labels.ids) sources.now) (map vec_items kept.now)) }
         ensures heard { IfOk result (λ labels. labels.heard.items
-            ≡ kept_of (map heard_of (map arc_value segments.now)) (map vec_items kept.now)) }
+            ≡ kept_of (map (λ s. s.now.labels.heard.items) sources.now) (map vec_items kept.now)) }
     {
         let mut labels = Labels::with_capacity(alloc, 0)?;
-        let mut segments = segments;
-        let mut kept = kept;
-        while let Some((segment, others)) = segments.split_first() {
-            let Some((flags, more)) = kept.split_first() else {
-                return Ok(labels);
-            };
-            labels = labels.with_flagged(segment, flags)?;
-            segments = others;
-            kept = more;
+        let mut place = 0;
+        for source in sources {
+            labels = labels.with_flagged(&source.labels, flags_of(kept, place))?;
+            place += 1;
         }
         Ok(labels)
     }

@@ -5,20 +5,21 @@
 ghost use Rattle.std.specs.Prelude.{◌≡◌};
 
 mod building;
-mod index;
 mod index_selecting;
 mod kept_terms;
+mod labelled_index;
 mod labels;
 mod marking;
 mod packed_texts;
 mod positions_read;
+mod query_index;
 mod reading;
 mod segment;
-mod selecting;
 mod spots;
 mod term_lists;
 
+pub use labelled_index::LabelledIndex;
 pub use positions_read::PositionsRead;
 pub use reading::SegmentReading;
-pub use segment::{MOST_POSITIONS, Segment};
+pub use segment::{Segment, positions_with_key};
 pub use spots::SegmentSpots;

@@ -6,7 +6,7 @@ use clip_words::NoMemory;
 use std::marker::Model;
 
 /// How many positions were read of those under the keys of segments' queries, each once for each list of a key that it
-/// stands in. Nothing but a look at such a list, as of `SegmentReading::sharer_marks` or `Segment::read`, counts.
+/// stands in. Nothing but a look at such a list, as of `SegmentReading::of` or `SegmentReading::sharer_marks`, counts.
 /// Contracts see the count.
 #[derive(Drop)]
 pub struct PositionsRead {

@@ -5,7 +5,7 @@ ghost use Rattle.std.specs.Arc.{arc_value};
 ghost use Rattle.std.specs.List.{slice_get};
 ghost use Rattle.std.specs.Option.{option_copied};
 ghost use Rattle.clip_extract.specs.Covering.{article_keys};
-ghost use Rattle.clip_extract.specs.Extraction.{query_keys};
+ghost use Rattle.clip_extract.specs.Extraction.{query_keys, second_keys};
 ghost use Rattle.clip_extract.specs.Keys.{share};
 ghost use Rattle.clip_meaning.specs.Meaning.{holds};
 ghost use Rattle.clip_model.specs.History.{Registered};
@@ -20,7 +20,7 @@ use clip_extract::second_covering_law;
 use clip_pieces::{Marks, PackedLists};
 use clip_plan::{Plans, Tallies};
 use clip_standing::Entry;
-use clip_terms::Reading;
+use clip_terms::{Asking, Reading};
 use clip_words::NoMemory;
 use std::alloc::Global;
 use std::marker::Model;
@@ -55,6 +55,41 @@ impl<'a> Model for SegmentReading<'a> {
 }
 
 impl<'a> SegmentReading<'a> {
+    /// An article as a segment asks it. The positions that are read for it are counted.
+    ///
+    /// `NoMemory` where an allocation failed, or where the count is at its end. Cost: that of `Reading::of` over the
+    /// terms of the segment's index, a step for each position under a second key that the article has, which is what is
+    /// counted, and one for each 64 entries of the segment.
+    pub fn of(
+        alloc: Global,
+        segment: &'a Segment,
+        asking: &Asking<'a>,
+        read: &mut PositionsRead,
+    ) -> Result<SegmentReading<'a>, NoMemory>
+        ensures reading { IfOk result (λ reading.
+            reading ≡ record { entries = segment.now; article = asking.now }) }
+        ensures counted { OnOk result (read.new ≡ read.old
+            + positions_under second_keys (article_keys asking.now.fields) (trees_of segment.now)) }
+    {
+        let queries = &segment.index().queries;
+        let reading = Reading::of(alloc, &queries.terms, asking)?;
+        let seconds = marks_under(
+            alloc,
+            &queries.seconds,
+            reading.numbers(),
+            segment.len(),
+            read,
+        )?;
+        Ok(SegmentReading {
+            segment,
+            positions: &queries.positions,
+            needs: &queries.needs,
+            plans: &queries.plans,
+            reading,
+            seconds,
+        })
+    }
+
     /// The positions of just the entries whose queries share a key with the article, among those of all entries. Those
     /// that were read to find them are counted.
     ///
@@ -120,7 +155,7 @@ impl<'a> SegmentReading<'a> {
     pub fn id(&self, position: u32) -> Option<&'a str>
         ensures { option_copied result ≡ slice_get (ids_of self.now.entries) position }
     {
-        self.segment.id(position)
+        self.segment.index().id(position)
     }
 
     /// Whether the query of the entry at a position from 0 has a listener; none has one past the end. No entry is
@@ -128,7 +163,7 @@ impl<'a> SegmentReading<'a> {
     pub fn has_listener(&self, position: u32) -> bool
         ensures { result ≡ slice_index_or (heard_of self.now.entries) position false }
     {
-        self.segment.has_listener(position)
+        self.segment.index().has_listener(position)
     }
 
     /// Whether the query of the entry at a position may hold of the article: `false` rules it out, by its first clause,

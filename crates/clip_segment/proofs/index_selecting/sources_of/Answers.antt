@@ -4,10 +4,10 @@ use Rattle.std.proofs.lemmas.List.{length-map}
 use Rattle.clip_grammar.specs.Tree.{Tree}
 use Rattle.clip_plan.specs.Plan.{are_terms}
 use Rattle.clip_segment.specs.Index.{asked_of}
-use Rattle.clip_segment.specs.Selecting.{flagged, kept_of}
+use Rattle.clip_indexed.specs.Selecting.{flagged, kept_of}
 use Rattle.clip_segment.specs.Steps.Parts.{AreFrom}
 use Rattle.clip_segment.specs.declared.index_selecting.Source.{Source}
-use Rattle.clip_segment.specs.declared.segment.TheConstants.{MOST_POSITIONS}
+use Rattle.clip_indexed.specs.declared.segment.TheConstants.{MOST_POSITIONS}
 use Rattle.clip_segment.proofs.Flagged.{few_next}
 use Rattle.clip_segment.proofs.SeveralIndexes.{all_kept, at_place, flags_at, index_here, kept_asked, next_kept}
 use Rattle.clip_segment.proofs.index_selecting.sources_of.Goals as goal
@@ -35,7 +35,6 @@ loop-index-preserved c = record {
   from = λ trees are flagged_all terms_are start.
       let terms = c.args.terms.now in
       let flags = map vec_items c.args.kept.now in
-      let indexes = map (λ r. r.now) c.args.indexes.now in
       let i = c.loop-index.index-index in
       let before = kept_of (take i trees) (take i flags) in
       let sources = c.loop-index.sources.items in
@@ -45,8 +44,7 @@ loop-index-preserved c = record {
       c.source_of.new.plans) (sym c.in_ok-push.ensures.items)
       (subst (λ (ts : List Tree). AreFrom terms ts (sources ++ c.in_ok-source_of.field-0 ∷ []) c.source_of.new.plans)
       (ap (λ fs. before ++ flagged fs (at_place trees i)) now
-      ∙ sym (next_kept trees indexes flags i are flagged_all
-      (omega (arith, c.loop-index-test.true, length-map c.args.indexes.now (λ r. r.now)))))
+      ∙ sym (next_kept trees flags i))
       (c.in_ok-source_of.ensures.taken before (at_place trees i) sources
       (index_here (λ r. r.now) c.args.indexes.now trees i c.index-item.result are c.loop-index-test.true
       c.index-item.is)
@@ -60,5 +58,5 @@ pub returns : goal.returns
 returns c = λ trees are flagged_all terms_are start.
     subst (λ (ts : List Tree). AreFrom c.args.terms.now ts c.loop-index.sources.items c.loop-index.plans)
     (all_kept trees (map (λ r. r.now) c.args.indexes.now) (map vec_items c.args.kept.now) c.loop-index.index-index are
-    flagged_all (omega (arith, c.loop-index-test.false, length-map c.args.indexes.now (λ r. r.now))))
+    (omega (arith, c.loop-index-test.false, length-map c.args.indexes.now (λ r. r.now))))
     (c.loop-index.invariant.from trees are flagged_all terms_are start)

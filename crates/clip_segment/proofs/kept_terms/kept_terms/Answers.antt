@@ -10,7 +10,7 @@ use Rattle.clip_extract.proofs.Members.{strict_keys}
 use Rattle.clip_extract.proofs.Order.{among_in_order, key_cmp_total, key_cmp_same}
 use Rattle.clip_terms.proofs.Numbers.{in_order_rises}
 use Rattle.clip_segment.specs.Index.{asked_of}
-use Rattle.clip_segment.specs.Selecting.{flagged}
+use Rattle.clip_indexed.specs.Selecting.{flagged}
 use Rattle.clip_segment.proofs.Flagged.{none_rise}
 use Rattle.clip_segment.proofs.SeveralIndexes.{all_kept, at_place, index_here, next_asked}
 use Rattle.clip_segment.proofs.kept_terms.kept_terms.Goals as goal
@@ -38,8 +38,7 @@ loop-index-preserved c =
       all = λ trees are flagged_all key.
           let flags = map vec_items c.args.kept.now in
           let i = c.loop-index.index-index in
-          next_asked trees (map (λ r. r.now) c.args.indexes.now) flags i key before new are flagged_all
-          (omega (arith, c.loop-index-test.true, length-map c.args.indexes.now (λ r. r.now)))
+          next_asked trees flags i key before new
           (c.loop-index.invariant.all trees are flagged_all key)
           (ap (list_any (is_same key)) merged ∙ among_in_order (before ++ more) key
           ∙ list_any-append (is_same key) before more
@@ -60,6 +59,6 @@ returns-clause-terms c =
     ∙ strict_keys key_cmp_total key_cmp_same heads _ c.loop-index.invariant.rising (λ q.
     c.loop-index.invariant.all trees are flagged_all q
     ∙ ap (λ ts. list_any (is_same q) (flat_map asked_of ts))
-    (all_kept trees (map (λ r. r.now) c.args.indexes.now) flags c.loop-index.index-index are flagged_all
+    (all_kept trees (map (λ r. r.now) c.args.indexes.now) flags c.loop-index.index-index are
     (omega (arith, c.loop-index-test.false, length-map c.args.indexes.now (λ r. r.now))))))
     c.of_heads.ensures
