@@ -37,23 +37,21 @@ show_surely-requires-clause-callers g c =
     let is : view ≡ with_command seen caller command =
     followed c.self.inside.registrar c.in-Ok.grown.registrar seen view caller c.caller-caller.result command
     (ap (λ s. s.history) c.in-Ok.ensures.view) c.in-Ok.ensures.registrar i.log c.caller-caller.ensures.caller in
+    let callers = g.N.DeskName.callers in
     let known = c.caller-caller.ensures.known in
     let same = c.caller-caller.ensures.caller in
-    let shown = c.self.inside.writer.desk.shown.value in
     let low : 0 < caller = omega (arith, known.0, same) in
-    let high : caller ≤ g.N.DeskName.callers = omega (arith, known.1, same, c.requires.desk.1) in
-    by_grown shown.callers g.N.DeskName.callers caller shown.view.history seen view command shown.callers_are
-    (ap (λ v. v.history) i.shown_is ∙ sym i.log) is low high i.shown_callers
+    let high : caller ≤ callers = omega (arith, known.1, same, c.requires.desk.1) in
+    subst (λ (n : ℕ). IsBy n view) (sym i.shown_callers)
+    (by_grown callers caller seen view command (subst (IsBy callers) (sym i.log) i.by) is low high)
 
 pub show_surely-requires-clause-purged : goal.show_surely-requires-clause-purged
 show_surely-requires-clause-purged g c =
-    let shown = c.self.inside.writer.desk.shown.value in
-    let caller = c.caller-caller.result in
-    let command = command_of c.args.command in
-    let is : c.in-Ok.grown.view ≡ state_after shown.view caller command = c.in-Ok.ensures.view
-    ∙ c.in-Ok.ensures.registrar ∙ ap (λ s. state_after s caller command) (sym c.self.invariant.0.shown_is) in
-    subst (λ (s : RegistryState). IsPurgedAt s shown.purged_at) (sym is)
-    (purged_after shown.view caller command shown.purged_at shown.purged_is)
+    let registrar = c.self.inside.registrar in
+    let purged_at = c.self.inside.writer.desk.shown.value.purged_at in
+    subst (λ (s : RegistryState). IsPurgedAt s purged_at)
+    (sym (c.in-Ok.ensures.view ∙ c.in-Ok.ensures.registrar))
+    (purged_after registrar c.caller-caller.result (command_of c.args.command) purged_at c.self.invariant.0.purged)
 
 pub add-requires-clause-desk : goal.add-requires-clause-desk
 add-requires-clause-desk g c =
@@ -106,13 +104,12 @@ returns-clause-legal g c =
     c.in-Ok.ensures.registrar i.log c.caller-caller.ensures.caller in
     let known = c.caller-caller.ensures.known in
     let same = c.caller-caller.ensures.caller in
-    let shown = c.self.inside.writer.desk.shown.value in
+    let callers = g.N.DeskName.callers in
     let low : 0 < caller = omega (arith, known.0, same) in
-    let high : caller ≤ g.N.DeskName.callers = omega (arith, known.1, same, c.requires.desk.1) in
-    let by : IsBy shown.callers after =
-    by_grown shown.callers g.N.DeskName.callers caller shown.view.history seen after command shown.callers_are
-    (ap (λ v. v.history) i.shown_is ∙ sym i.log) is low high i.shown_callers in
-    (subst IsLegal (sym told) c.add.ensures.legal, subst (λ (n : ℕ). IsBy n after) i.shown_callers by)
+    let high : caller ≤ callers = omega (arith, known.1, same, c.requires.desk.1) in (
+      subst IsLegal (sym told) c.add.ensures.legal,
+      by_grown callers caller seen after command (subst (IsBy callers) (sym i.log) i.by) is low high,
+    )
 
 pub returns-clause-seen : goal.returns-clause-seen
 returns-clause-seen g c =

@@ -15,8 +15,8 @@ pub put-requires-clause-purged : goal.put-requires-clause-purged
 put-requires-clause-purged g c =
     let shown = c.self.inside.writer.desk.shown.value in
     let was : IsPurgedAt c.in_ok-next.next shown.purged_at =
-    subst (λ (s : RegistryState). IsPurgedAt s shown.purged_at)
-    (c.self.invariant.0.shown_is ∙ sym c.in_ok-next.ensures) shown.purged_is in
+    subst (λ (s : RegistryState). IsPurgedAt s shown.purged_at) (sym c.in_ok-next.ensures)
+    c.self.invariant.0.purged in
     let some : c.args.merged.entries
     ≡ filter (λ r. c.merged.invariant.is r.seq) (all_entries c.args.merged.sources) =
     subst (λ (m : Merge). m.entries ≡ filter (λ r. c.merged.invariant.is r.seq) (all_entries m.sources))

@@ -1,4 +1,4 @@
-use Rattle.std.proofs.Common.{◌≡◌, ◌∙◌, ap, sym, subst}
+use Rattle.std.proofs.Common.{◌≡◌, ◌∙◌, ℕ, ap, sym, subst}
 use mathlib.Core.List.{IsPrefix}
 use Rattle.clip_desk.specs.Callers.{IsBy}
 use Rattle.clip_desk.proofs.Beginnings.{prefix_self}
@@ -15,9 +15,9 @@ show-requires-clause-later g c =
 
 pub show-requires-clause-callers : goal.show-requires-clause-callers
 show-requires-clause-callers g c =
+    let i = c.self.invariant.0 in
+    let history = c.self.inside.registrar.history in
     let shown = c.self.inside.writer.desk.shown.value in
-    let view = c.in_ok-view.view.history in
-    let same : shown.view.history ≡ view = ap (λ s. s.history) c.self.invariant.0.shown_is
-    ∙ (ap (λ s. s.registry.history) c.self.view_is
-    ∙ (sym c.requires.same.0 ∙ sym (ap (λ s. s.history) c.in_ok-view.ensures))) in
-    subst (IsBy shown.callers) same shown.callers_are
+    let same : history ≡ c.in_ok-view.view.history = ap (λ s. s.registry.history) c.self.view_is
+    ∙ (sym c.requires.same.0 ∙ sym (ap (λ s. s.history) c.in_ok-view.ensures)) in
+    subst (IsBy shown.callers) same (subst (λ (n : ℕ). IsBy n history) (sym i.shown_callers) i.by)
