@@ -16,7 +16,7 @@ use Rattle.std.proofs.lemmas.Map.Views.{lookup-from_Contains}
 use Rattle.clip_words.specs.Order.{bytes_cmp}
 use Rattle.clip_model.specs.History.{Registered, replay}
 use Rattle.clip_model.proofs.ById.{bytes_same}
-use Rattle.clip_segment.specs.Segment.{IsRising}
+use Rattle.clip_indexed.specs.Segment.{IsRising}
 use Rattle.clip_registry.specs.RegistryState.{RegistryState}
 use Rattle.clip_terms.proofs.Strict.{sorted_mapped, sorted_keys}
 use Rattle.clip_match.specs.Candidates.{AreRegistered}

@@ -19,7 +19,7 @@ use Rattle.clip_meaning.specs.Article.{ArticleValue}
 use Rattle.clip_meaning.specs.Meaning.{holds}
 use Rattle.clip_model.specs.History.{Registered, replay}
 use Rattle.clip_model.specs.Alerts.{alert_of, alerts, holds_of}
-use Rattle.clip_segment.specs.Segment.{IsRising}
+use Rattle.clip_indexed.specs.Segment.{IsRising}
 use Rattle.clip_registry.specs.RegistryState.{RegistryState}
 use Rattle.clip_registry.proofs.Rising.{contains_filter}
 use Rattle.clip_model.proofs.Numbering.{replay_numbered}

@@ -6,7 +6,7 @@ use Rattle.std.proofs.lemmas.Bool.{false≢true}
 use Rattle.clip_pieces.specs.Marked.{marked_from}
 use Rattle.clip_model.proofs.Filters.{filter_few}
 use Rattle.clip_model.specs.History.{Registered}
-use Rattle.clip_segment.proofs.Flagged.{count_first}
+use Rattle.clip_indexed.proofs.Flagged.{count_first}
 use Rattle.clip_match.specs.Steps.Positions.{entries_at}
 
 -- of marks that are among others there are no more

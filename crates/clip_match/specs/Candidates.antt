@@ -9,7 +9,8 @@ use Rattle.clip_extract.specs.Extraction.{query_keys, second_keys}
 use Rattle.clip_extract.specs.Covering.{article_keys}
 use Rattle.clip_registry.specs.RegistryState.{RegistryState}
 use Rattle.clip_segment.specs.Index.{positions_under}
-use Rattle.clip_segment.specs.Segment.{all_entries, trees_of}
+use Rattle.clip_indexed.specs.Segment.{all_entries}
+use Rattle.clip_segment.specs.Segment.{trees_of}
 
 -- an entry that is live, and whose query has a key in common with the article
 abbrev pub is_candidate : History → Fields → Registered → Bool

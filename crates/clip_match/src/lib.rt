@@ -9,6 +9,7 @@ mod gate;
 mod held;
 mod matching;
 mod pieces;
+mod registry;
 mod trying;
 
 pub use entries::DueEntries;
@@ -16,3 +17,4 @@ pub use gate::{Gate, OpenGate};
 pub use held::HitsFound;
 pub use matching::{entries_due, match_article, match_batch};
 pub use pieces::{match_piece, match_pieces};
+pub use registry::{MergeJob, Registrar, View};

@@ -11,9 +11,9 @@ ghost use Rattle.clip_match.specs.Due.{due_value, AreItsHits, AreJudged, AreThei
 
 use crate::entries::DueEntries;
 use crate::held::{Held, HitPlaces, HitsFound};
+use crate::registry::View;
 use crate::trying::{HeldEntries, Judged, judge_candidates};
 use clip_meaning::{Article, Hit};
-use clip_registry::View;
 use clip_standing::{Alert, AlertView, Alerts, FoundHits};
 use clip_words::NoMemory;
 use std::alloc::Global;

@@ -6,8 +6,8 @@ ghost use Rattle.clip_match.specs.Alerts.{alerts_due};
 
 use crate::gate::Gate;
 use crate::matching::match_batch;
+use crate::registry::View;
 use clip_meaning::Article;
-use clip_registry::View;
 use clip_standing::Alerts;
 use clip_words::NoMemory;
 use std::alloc::Global;

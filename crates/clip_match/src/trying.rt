@@ -6,17 +6,18 @@ ghost use Rattle.clip_extract.specs.Covering.{article_keys};
 ghost use Rattle.clip_extract.specs.Extraction.{query_keys};
 ghost use Rattle.clip_meaning.specs.Hits.{HitValue, hit_value};
 ghost use Rattle.clip_meaning.specs.Meaning.{holds};
+ghost use Rattle.clip_indexed.specs.Segment.{IsRising};
 ghost use Rattle.clip_segment.specs.Index.{positions_under};
-ghost use Rattle.clip_segment.specs.Segment.{IsRising, heard_of, trees_of};
+ghost use Rattle.clip_segment.specs.Segment.{heard_of, trees_of};
 ghost use Rattle.clip_match.specs.Candidates.{candidates_of, positions_of, MissesNone, AreRegistered};
 ghost use Rattle.clip_match.specs.Steps.Held.{HasItsHits};
 ghost use Rattle.clip_match.specs.Steps.Positions.{entries_at, has_listener, holding_of, live_sharing};
 
 use crate::held::{Held, HitPlaces, HitsFound};
+use crate::registry::View;
 use clip_extract::covering_law;
 use clip_meaning::{Article, Hit};
 use clip_plan::Tallies;
-use clip_registry::View;
 use clip_segment::{PositionsRead, SegmentReading, SegmentSpots};
 use clip_standing::Entry;
 use clip_terms::{Asking, FieldFlags};
@@ -402,7 +403,7 @@ pub(crate) fn judge_candidates<'a>(
     let mut judged = Judged::none(alloc);
     let segments = view.segments();
     for (place, segment) in segments.iter().enumerate() {
-        let reading = segment.read(alloc, &asking, &mut room.read)?;
+        let reading = SegmentReading::of(alloc, segment, &asking, &mut room.read)?;
         room.try_segment(view, place, &reading, hits, &mut judged)?;
     }
     judged.plans = room.tallies.judged();

@@ -142,8 +142,9 @@ pub(crate) fn kept_terms(
     kept: &[Vec<bool>],
 ) -> Result<Terms, NoMemory>
     ensures rising { IfOk result (λ terms. IsStrictlySortedBy key_cmp terms) }
-    ensures terms { IfOk result (λ terms. (trees : List (List Tree)) → AllZip IsIndexOf trees (map (λ i. i.now) indexes.now)
-        → AreFlagsOf trees (map vec_items kept.now) → terms ≡ terms_of (kept_of trees (map vec_items kept.now))) }
+    ensures terms { IfOk result (λ terms. (trees : List (List Tree))
+        → AllZip IsIndexOf trees (map (λ i. i.now) indexes.now) → AreFlagsOf trees (map vec_items kept.now)
+        → terms ≡ terms_of (kept_of trees (map vec_items kept.now))) }
 {
     let mut heads = Vec::new(alloc);
     let mut place = 0;

@@ -17,6 +17,9 @@ use Rattle.std.proofs.result.Result.TheSendSync as result_sent
 use Rattle.std.proofs.vec.Vec.TheSendSync as vec_sent
 use Rattle.clip_words.proofs.NoMemory.TheSendSync as no_memory_sent
 use Rattle.clip_standing.specs.contracts.alert.Alerts as alerts
+use Rattle.clip_segment.specs.contracts.labelled_index.LabelledIndex as labelled_index
+use Rattle.clip_segment.specs.contracts.labelled_index.LabelledIndexIndex.TheImpl as index_impl
+use Rattle.clip_segment.proofs.Sent.{labelled_index_send, labelled_index_sync}
 use Rattle.clip_registry.specs.contracts.view.View as view
 use Rattle.clip_registry.proofs.Sent.{view_is_sync}
 use Rattle.clip_meaning.specs.contracts.article.Article as article
@@ -40,6 +43,13 @@ captures_send name A B C D E F a b c d e f =
       ),
     )
 
+-- views over the index by which articles are matched
+abbrev view_row : RattleType
+view_row = view.the_row labelled_index.the_row index_impl.ghosts
+
+view_sync : IsSync view_row
+view_sync = view_is_sync labelled_index.the_row index_impl.ghosts labelled_index_send labelled_index_sync
+
 pieces_send : IsSend pieces.the_row
 pieces_send = declared_send pieces.the_type (search sendable, (search sendable, (search sendable, tt)))
 
@@ -48,14 +58,14 @@ join-first-requires-send-F g t c κs within =
     let r : IsSync g.row.R = search rules in
     let s : IsSync g.row.G = search rules in
     let rt = (shr_ref_field (record { mir = named 6; lft = κs.1.1.1.1.1.1.0 }) (param 0 g.row.R) tt).row in
-    let looked = (shr_ref_field (record { mir = named 7; lft = κs.1.1.1.1.1.1.1.0 }) view.the_row tt).row in
+    let looked = (shr_ref_field (record { mir = named 7; lft = κs.1.1.1.1.1.1.1.0 }) view_row tt).row in
     let front = (shr_slice_field (record { mir = named 8; lft = κs.1.1.1.1.1.1.1.1.0 }) article.the_row tt).row in
     let gate = (shr_ref_field (record { mir = named 9; lft = κs.1.1.1.1.1.1.1.1.1.0 }) (param 1 g.row.G) tt).row in
     let captured = rt ∷ global.the_row ∷ looked ∷ front ∷ pieces.the_row ∷ gate ∷ [] in
     let name = codes "clip_match::pieces::fn::match_from::join+arg2+Self" in
     param_send 1 _ (arg_send _ no (TupleAt name captured)
     (captures_send name rt global.the_row looked front pieces.the_row gate
-    (shr_send _ _ _ (param_sync 0 _ r)) global_sent.the_send (shr_send _ _ _ view_is_sync)
+    (shr_send _ _ _ (param_sync 0 _ r)) global_sent.the_send (shr_send _ _ _ view_sync)
     (shr_slice_send _ _ _ article_sent.the_sync)
     pieces_send (shr_send _ _ _ (param_sync 1 _ s))))
 

@@ -12,7 +12,8 @@ use Rattle.clip_meaning.specs.Hits.{hit_value}
 use Rattle.clip_meaning.specs.Meaning.{holds}
 use Rattle.clip_model.specs.History.{Registered}
 use Rattle.clip_segment.specs.Index.{positions_under}
-use Rattle.clip_segment.specs.Segment.{AskedValue, all_entries, trees_of}
+use Rattle.clip_indexed.specs.Segment.{all_entries}
+use Rattle.clip_segment.specs.Segment.{AskedValue, trees_of}
 use Rattle.clip_match.specs.Candidates.{candidates_of, under_keys}
 use Rattle.clip_match.specs.declared.held.Held.{Held}
 use Rattle.clip_match.specs.Steps.Held.{HasItsHits}
@@ -131,11 +132,12 @@ loop-place-preserved c =
       least = let more = c.in_ok-try_segment.ensures.least in
           let before = c.loop-place.invariant.least in omega (arith, more, before);
       read =
+          let first = c.of-in-loop-place.new.read in
           let by_keys = subst (λ (r : AskedValue). c.try_segment.new.self.read
-          ≡ c.read.new.read + positions_under query_keys (article_keys r.article.fields) (trees_of r.entries))
+          ≡ first + positions_under query_keys (article_keys r.article.fields) (trees_of r.entries))
           (value at)
           c.in_ok-try_segment.ensures.read in
-          let by_second : c.read.new.read ≡ c.loop-place.room.read + positions_under second_keys ks (trees_of segment) =
+          let by_second : first ≡ c.loop-place.room.read + positions_under second_keys ks (trees_of segment) =
           c.in_ok-reading.ensures.counted
           ∙ ap (λ (es : List Registered). c.loop-place.room.read
           + positions_under second_keys (article_keys c.in_ok-asking.asking.fields) (trees_of es)) c.deref.ensures

@@ -4,7 +4,7 @@ use Rattle.std.specs.Arc.{arc_value}
 use Rattle.clip_extract.specs.Covering.{article_keys}
 use Rattle.clip_meaning.specs.Hits.{hit_value}
 use Rattle.clip_meaning.specs.Meaning.{holds}
-use Rattle.clip_segment.specs.Segment.{all_entries}
+use Rattle.clip_indexed.specs.Segment.{all_entries}
 use Rattle.clip_match.specs.Candidates.{under_keys}
 use Rattle.clip_match.specs.Steps.Held.{HasItsHits}
 use Rattle.clip_match.specs.Steps.Positions.{has_listener, live_with}
