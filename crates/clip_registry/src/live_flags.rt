@@ -128,7 +128,7 @@ pub fn add_live<'a, I: Index>(
 }
 
 /// The flags one by one. `NoMemory` where an allocation failed.
-fn listed(alloc: Global, flags: &SharedFlags) -> Result<Vec<bool>, NoMemory>
+fn list_flags(alloc: Global, flags: &SharedFlags) -> Result<Vec<bool>, NoMemory>
     ensures { IfOk result (λ list. list.items ≡ flags.now) }
 {
     let mut list = Vec::with_capacity(alloc, flags.len())?;
@@ -144,7 +144,7 @@ pub fn flags_listed(alloc: Global, live: &[Shared<SharedFlags>]) -> Result<Vec<V
 {
     let mut lists = Vec::with_capacity(alloc, live.len())?;
     for flags in live {
-        lists.push(listed(alloc, flags.value())?)?;
+        lists.push(list_flags(alloc, flags.value())?)?;
     }
     Ok(lists)
 }

@@ -17,7 +17,7 @@ use Rattle.clip_segment.specs.Index.{IndexValue, IsIndexOf, asked_of, has_key, p
 use Rattle.clip_segment.specs.Index.{terms_of}
 use Rattle.clip_indexed.specs.Selecting.{flagged}
 use Rattle.clip_segment.specs.Steps.Parts.{AreFrom, keys_by, listed, lists_by, moved, new_positions, taken}
-use Rattle.clip_segment.specs.declared.index_selecting.Source.{Source}
+use Rattle.clip_segment.specs.declared.index_selecting.KeptIndex.{KeptIndex}
 use Rattle.clip_segment.proofs.Answering.{list_of_key, no_number}
 use Rattle.clip_segment.proofs.Asked.{AreAsked, asked_parts, keys_asked, seconds_asked}
 use Rattle.clip_indexed.proofs.Flagged.{flagged_few}
@@ -52,7 +52,7 @@ old_number terms keys number lt =
     ∙ ap (number_of keys) (sym (unwrap_or-slice_get terms number Any))
 
 -- what a source has under a term is moved from its positions in the index
-pub taken_is : (second : Bool) (number : ℕ) (terms : List KeyValue) (trees : List Tree) (source : Source)
+pub taken_is : (second : Bool) (number : ℕ) (terms : List KeyValue) (trees : List Tree) (source : KeptIndex)
     → IsIndexOf trees source.index.now → source.numbers.items ≡ map (number_of source.index.now.terms) terms
     → number < length terms
     → taken second number source
@@ -65,8 +65,8 @@ taken_is second number terms trees source is numbered lt =
     (ap (λ ns. unwrap_or (slice_get ns number) None) numbered ∙ old_number terms index.terms number lt))
 
 -- one source more
-placed_more : (second : Bool) (number : ℕ) (terms : List KeyValue) (before trees : List Tree) (sources : List Source)
-    (source : Source) (flags : List Bool) (first : ℕ)
+placed_more : (second : Bool) (number : ℕ) (terms : List KeyValue) (before trees : List Tree) (sources : List KeptIndex)
+    (source : KeptIndex) (flags : List Bool) (first : ℕ)
     → IsIndexOf trees source.index.now → source.numbers.items ≡ map (number_of source.index.now.terms) terms
     → source.moves.items ≡ new_positions first flags
     → first ≡ length before → length flags ≡ length trees → number < length terms
@@ -129,7 +129,7 @@ PlansAdded numbers flags others plans new =
     (terms : List KeyValue) → map (decoded terms) new
     ≡ map (decoded terms) plans ++ map (λ plan. decoded terms (renamed numbers plan)) (flagged flags others)
 
-pub next_source : (terms : List KeyValue) (before trees : List Tree) (sources : List Source) (source : Source)
+pub next_source : (terms : List KeyValue) (before trees : List Tree) (sources : List KeptIndex) (source : KeptIndex)
     (flags : List Bool) (first : ℕ) (numbers : List (Option ℕ)) (plans new_plans : List (List (Mark ℕ)))
     → IsIndexOf trees source.index.now → length flags ≡ length trees
     → IsTrue (are_terms terms (flat_map asked_of (flagged flags trees)))

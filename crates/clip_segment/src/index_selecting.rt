@@ -11,7 +11,7 @@ ghost use Rattle.clip_plan.specs.Plan.{are_terms, decoded, renamed};
 ghost use Rattle.clip_segment.specs.Index.{IsIndexOf, asked_of, terms_of};
 ghost use Rattle.clip_indexed.specs.Selecting.{AreFlagsOf, count_set, flagged, kept_of};
 ghost use Rattle.clip_segment.specs.Steps.Parts.{AreFrom, listed, lists_by, moved, new_position, new_positions, taken};
-ghost use Rattle.clip_segment.specs.declared.index_selecting.Source.{Source};
+ghost use Rattle.clip_segment.specs.declared.index_selecting.KeptIndex.{KeptIndex};
 ghost use Rattle.clip_indexed.specs.declared.segment.TheConstants.{MOST_POSITIONS};
 
 use crate::kept_terms::{flag_at, flags_of};
@@ -25,7 +25,7 @@ use std::alloc::Global;
 /// An index of which queries are kept, as an index of kept queries takes them over: for each term there its number
 /// here, and for each position here the new one.
 #[derive(Drop)]
-pub(crate) struct Source<'a> {
+pub(crate) struct KeptIndex<'a> {
     index: &'a QueryIndex,
     numbers: Vec<Option<u32>>,
     moves: Vec<Option<u32>>,
@@ -136,11 +136,11 @@ fn source_of<'a>(
     index: &'a QueryIndex,
     kept: &[bool],
     plans: &mut Plans,
-) -> Result<Source<'a>, NoMemory>
+) -> Result<KeptIndex<'a>, NoMemory>
     requires rising { IsStrictlySortedBy key_cmp terms.now }
     requires few { length plans.old + count_by (λ flag. flag) kept.now ≤ MOST_POSITIONS }
     ensures few { OnOk result (length plans.new ≤ length plans.old + count_by (λ flag. flag) kept.now) }
-    ensures taken { IfOk result (λ source. (before trees : List Tree) (sources : List Source)
+    ensures taken { IfOk result (λ source. (before trees : List Tree) (sources : List KeptIndex)
         → IsIndexOf trees index.now → length kept.now ≡ length trees
         → IsTrue (are_terms terms.now (flat_map asked_of (flagged kept.now trees)))
         → AreFrom terms.now before sources plans.old
@@ -150,7 +150,7 @@ fn source_of<'a>(
     let moves = new_positions(alloc, kept, plans.len() as u32)?;
     add_plans(alloc, &index.plans, kept, &numbers, plans)?;
     let numbers = old_numbers(alloc, terms, &index.terms, &numbers)?;
-    Ok(Source {
+    Ok(KeptIndex {
         index,
         numbers,
         moves,
@@ -164,7 +164,7 @@ pub(crate) fn sources_of<'a>(
     indexes: &[&'a QueryIndex],
     kept: &[Vec<bool>],
     plans: &mut Plans,
-) -> Result<Vec<Source<'a>>, NoMemory>
+) -> Result<Vec<KeptIndex<'a>>, NoMemory>
     requires rising { IsStrictlySortedBy key_cmp terms.now }
     requires few { length plans.old + count_set (map vec_items kept.now) ≤ MOST_POSITIONS }
     ensures { IfOk result (λ sources. (trees : List (List Tree))
@@ -194,7 +194,7 @@ fn lists_by(index: &QueryIndex, second: bool) -> &PackedLists<u32>
 }
 
 /// The list of a number, an empty one without a number.
-fn listed(lists: &PackedLists<u32>, number: Option<u32>) -> &[u32]
+fn list_of(lists: &PackedLists<u32>, number: Option<u32>) -> &[u32]
     ensures { result.now ≡ listed lists.now number }
 {
     match number {
@@ -215,14 +215,14 @@ fn number_at(numbers: &[Option<u32>], place: usize) -> Option<u32>
 
 /// Adds the new positions that a source has under the term of a new number.
 fn add_taken(
-    source: &Source,
+    source: &KeptIndex,
     second: bool,
     number: usize,
     list: &mut Vec<u32>,
 ) -> Result<(), NoMemory>
     ensures { OnOk result (list.new.items ≡ list.old.items ++ taken second number source.now) }
 {
-    let old = listed(
+    let old = list_of(
         lists_by(source.index, second),
         number_at(&source.numbers, number),
     );
@@ -231,7 +231,7 @@ fn add_taken(
 
 /// Adds the new positions that sources have under the term of a new number, those of one behind those of another.
 fn add_all_taken(
-    sources: &[Source],
+    sources: &[KeptIndex],
     second: bool,
     number: usize,
     list: &mut Vec<u32>,
@@ -248,7 +248,7 @@ fn add_all_taken(
 pub(crate) fn taken_lists(
     alloc: Global,
     terms: &Terms,
-    sources: &[Source],
+    sources: &[KeptIndex],
     second: bool,
 ) -> Result<PackedLists<u32>, NoMemory>
     ensures { IfOk result (λ lists. (under : KeyValue → List ℕ)

@@ -12,7 +12,7 @@ ghost use Rattle.clip_indexed.specs.declared.segment.TheConstants.{MOST_POSITION
 use crate::building::{lists_of, plans_of, terms_of, with_keys};
 use crate::index_selecting::{sources_of, taken_lists};
 use crate::kept_terms::kept_terms;
-use crate::term_lists::{marks_of, packed};
+use crate::term_lists::{marks_of, pack_lists};
 use clip_extract::Key;
 use clip_grammar::query::Query;
 use clip_pieces::{Marks, PackedLists};
@@ -83,8 +83,8 @@ impl QueryIndex {
         let terms = terms_of(alloc, &keyed)?;
         let lists = lists_of(alloc, &terms, &keyed)?;
         let plans = plans_of(alloc, &terms, &keyed)?;
-        let positions = packed(alloc, &lists.positions)?;
-        let seconds = packed(alloc, &lists.seconds)?;
+        let positions = pack_lists(alloc, &lists.positions)?;
+        let seconds = pack_lists(alloc, &lists.seconds)?;
         made_index(alloc, terms, positions, seconds, plans)
     }
 

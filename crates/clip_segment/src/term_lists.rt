@@ -41,7 +41,7 @@ fn empty_lists(alloc: Global, count: usize) -> Result<Vec<Vec<u32>>, NoMemory>
 }
 
 /// These lists in one buffer.
-pub(crate) fn packed(alloc: Global, lists: &[Vec<u32>]) -> Result<PackedLists<u32>, NoMemory>
+pub(crate) fn pack_lists(alloc: Global, lists: &[Vec<u32>]) -> Result<PackedLists<u32>, NoMemory>
     ensures { IfOk result (λ packed. packed ≡ map vec_items lists.now) }
 {
     let mut packed = PackedLists::new(alloc);

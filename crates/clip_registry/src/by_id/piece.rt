@@ -60,7 +60,7 @@ pub fn id_of(entry: &Arc<Entry>) -> &str
 }
 
 /// A copy of entries in order.
-fn copied(alloc: Global, entries: &[Arc<Entry>]) -> Result<Piece, NoMemory>
+fn copy_piece(alloc: Global, entries: &[Arc<Entry>]) -> Result<Piece, NoMemory>
     requires { T (finite.is_sorted bytes_cmp (map keyed entries.now)) }
     ensures { IfOk result (λ piece. finite.entries piece ≡ map keyed entries.now) }
 {
@@ -152,6 +152,6 @@ impl Piece {
         ensures { IfOk result (λ halves. AreHalves self.now halves.0 halves.1) }
     {
         let (lower, upper) = self.entries.split_at(self.entries.len() / 2);
-        Ok((copied(alloc, lower)?, copied(alloc, upper)?))
+        Ok((copy_piece(alloc, lower)?, copy_piece(alloc, upper)?))
     }
 }

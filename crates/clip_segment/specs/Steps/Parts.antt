@@ -7,7 +7,7 @@ use Rattle.clip_extract.specs.Keys.{KeyValue}
 use Rattle.clip_terms.specs.Terms.{term_at}
 use Rattle.clip_plan.specs.Plan.{Mark, decoded, plan_of}
 use Rattle.clip_segment.specs.Index.{IndexValue, positions_by, query_positions_with}
-use Rattle.clip_segment.specs.declared.index_selecting.Source.{Source}
+use Rattle.clip_segment.specs.declared.index_selecting.KeptIndex.{KeptIndex}
 use Rattle.clip_segment.specs.declared.term_lists.TermLists.{TermLists}
 
 -- the flag of a place is set; a missing one is not
@@ -43,14 +43,14 @@ listed lists None = []
 listed lists (Some number) = unwrap_or (slice_get lists number) []
 
 -- the new positions that a source has under the term of a new number
-abbrev pub taken : (second : Bool) → (number : ℕ) → Source → List ℕ
+abbrev pub taken : (second : Bool) → (number : ℕ) → KeptIndex → List ℕ
 taken second number source =
     moved source.moves.items
     (listed (lists_by second source.index.now) (unwrap_or (slice_get source.numbers.items number) None))
 
 -- over these terms the sources have the new positions of the queries, one behind another, and the plans are those of
 -- the queries
-pub record AreFrom (terms : List KeyValue) (trees : List Tree) (sources : List Source) (plans : List (List (Mark ℕ)))
+pub record AreFrom (terms : List KeyValue) (trees : List Tree) (sources : List KeptIndex) (plans : List (List (Mark ℕ)))
     : Type 0 where
   pub placed : (second : Bool) (number : ℕ) → number < length terms → flat_map (taken second number) sources
       ≡ query_positions_with (keys_by second) (term_at terms number) trees

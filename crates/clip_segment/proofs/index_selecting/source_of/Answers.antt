@@ -6,7 +6,7 @@ use Rattle.clip_terms.proofs.Numbers.{in_order_rises}
 use Rattle.clip_plan.specs.Plan.{Mark}
 use Rattle.clip_segment.specs.Index.{IndexValue, IsIndexOf}
 use Rattle.clip_segment.specs.Steps.IndexView.{index_of}
-use Rattle.clip_segment.specs.declared.index_selecting.Source.{Source}
+use Rattle.clip_segment.specs.declared.index_selecting.KeptIndex.{KeptIndex}
 use Rattle.clip_segment.proofs.KeptLists.{PlansAdded, next_source, plans_few}
 use Rattle.clip_segment.proofs.index_selecting.source_of.Goals as goal
 
@@ -20,7 +20,7 @@ returns-clause-taken c = λ before trees sources is long among from.
     let terms = c.args.terms.now in
     let kept = c.args.kept.now in
     let numbers = c.in_ok-numbers.numbers.items in
-    let source : Source = record {
+    let source : KeptIndex = record {
       index = c.args.index;
       numbers = c.in_ok-numbers-2.numbers;
       moves =

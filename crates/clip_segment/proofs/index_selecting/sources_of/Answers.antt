@@ -6,7 +6,7 @@ use Rattle.clip_plan.specs.Plan.{are_terms}
 use Rattle.clip_segment.specs.Index.{asked_of}
 use Rattle.clip_indexed.specs.Selecting.{flagged, kept_of}
 use Rattle.clip_segment.specs.Steps.Parts.{AreFrom}
-use Rattle.clip_segment.specs.declared.index_selecting.Source.{Source}
+use Rattle.clip_segment.specs.declared.index_selecting.KeptIndex.{KeptIndex}
 use Rattle.clip_indexed.specs.declared.segment.TheConstants.{MOST_POSITIONS}
 use Rattle.clip_segment.proofs.Flagged.{few_next}
 use Rattle.clip_segment.proofs.SeveralIndexes.{all_kept, at_place, flags_at, index_here, kept_asked, next_kept}
@@ -40,7 +40,7 @@ loop-index-preserved c = record {
       let sources = c.loop-index.sources.items in
       let now : c.flags_of.result.now ≡ at_place flags i =
       c.flags_of.ensures ∙ ap (at_place flags) c.loop-index.invariant.place in
-      subst (λ (ss : List Source). AreFrom terms (kept_of (take (i + 1) trees) (take (i + 1) flags)) ss
+      subst (λ (ss : List KeptIndex). AreFrom terms (kept_of (take (i + 1) trees) (take (i + 1) flags)) ss
       c.source_of.new.plans) (sym c.in_ok-push.ensures.items)
       (subst (λ (ts : List Tree). AreFrom terms ts (sources ++ c.in_ok-source_of.field-0 ∷ []) c.source_of.new.plans)
       (ap (λ fs. before ++ flagged fs (at_place trees i)) now

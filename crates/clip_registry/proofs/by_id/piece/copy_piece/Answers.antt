@@ -3,7 +3,7 @@ use Rattle.std.specs.FinMap as finite
 use Rattle.clip_words.specs.Order.{bytes_cmp}
 use Rattle.clip_registry.specs.Steps.Pieces.{keyed}
 use Rattle.clip_registry.proofs.Piecing.{keyed_clones}
-use Rattle.clip_registry.proofs.by_id.piece.copied.Goals as goal
+use Rattle.clip_registry.proofs.by_id.piece.copy_piece.Goals as goal
 
 pub invariant_of-result : goal.invariant_of-result
 invariant_of-result c =

@@ -1,7 +1,7 @@
 use Rattle.std.proofs.Common.{◌++◌, ◌∷◌, [], false, unwrap_or, ap, ap₂, sym, ◌∙◌, arith}
 use Rattle.std.proofs.lemmas.List.{take_more}
 use Rattle.std.proofs.lemmas.Option.{unwrap_or-slice_get}
-use Rattle.clip_registry.proofs.live_flags.listed.Goals as goal
+use Rattle.clip_registry.proofs.live_flags.list_flags.Goals as goal
 
 pub loop-place-preserved : goal.loop-place-preserved
 loop-place-preserved c =
