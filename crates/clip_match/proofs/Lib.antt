@@ -9,3 +9,4 @@ pub mod Few
 pub mod Judgings
 pub mod Sorted
 pub mod Whole
+pub mod Sent
