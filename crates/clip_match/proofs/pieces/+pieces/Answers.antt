@@ -17,15 +17,11 @@ use Rattle.std.proofs.result.Result.TheSendSync as result_sent
 use Rattle.std.proofs.vec.Vec.TheSendSync as vec_sent
 use Rattle.clip_words.proofs.NoMemory.TheSendSync as no_memory_sent
 use Rattle.clip_standing.specs.contracts.alert.Alerts as alerts
-use Rattle.clip_segment.specs.contracts.labelled_index.LabelledIndex as labelled_index
-use Rattle.clip_segment.specs.contracts.labelled_index.LabelledIndexIndex.TheImpl as index_impl
-use Rattle.clip_segment.proofs.Sent.{labelled_index_send, labelled_index_sync}
-use Rattle.clip_registry.specs.contracts.view.View as view
-use Rattle.clip_registry.proofs.Sent.{view_is_sync}
 use Rattle.clip_meaning.specs.contracts.article.Article as article
 use Rattle.clip_meaning.proofs.article.Article.TheSendSync as article_sent
 use Rattle.clip_standing.proofs.Sent.{alerts_send}
 use Rattle.clip_match.specs.contracts.pieces.Pieces as pieces
+use Rattle.clip_match.proofs.Sent.{view_row, view_sync}
 use Rattle.clip_match.proofs.pieces.+pieces.Goals as goal
 
 -- a closure of six captures
@@ -42,13 +38,6 @@ captures_send name A B C D E F a b c d e f =
         ),
       ),
     )
-
--- views over the index by which articles are matched
-abbrev view_row : RattleType
-view_row = view.the_row labelled_index.the_row index_impl.ghosts
-
-view_sync : IsSync view_row
-view_sync = view_is_sync labelled_index.the_row index_impl.ghosts labelled_index_send labelled_index_sync
 
 pieces_send : IsSend pieces.the_row
 pieces_send = declared_send pieces.the_type (search sendable, (search sendable, (search sendable, tt)))
