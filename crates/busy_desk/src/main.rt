@@ -18,7 +18,7 @@ mod merging;
 
 use anyhow::{Result, bail};
 use clip_desk::{Desk, DeskName, DeskParts, Seat, UpdateListeners, UpdateLog};
-use clip_registry::View;
+use clip_match::View;
 use clip_standing::Command;
 use commands::{Change, change_one, register_from};
 use merging::{Merger, Report, Times, measure};

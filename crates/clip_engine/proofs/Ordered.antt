@@ -14,7 +14,7 @@ use Rattle.std.proofs.lemmas.List.Sorted.{Contains-permutation, IsPermutation-sy
 use Rattle.clip_words.specs.Order.{bytes_cmp}
 use Rattle.clip_model.specs.History.{Registered, is_live, replay}
 use Rattle.clip_model.proofs.Numbering.{replay_numbered}
-use Rattle.clip_segment.specs.Segment.{IsRising, all_entries}
+use Rattle.clip_indexed.specs.Segment.{IsRising, all_entries}
 use Rattle.clip_registry.specs.RegistryState.{RegistryState, IsWhole}
 use Rattle.clip_registry.proofs.Rising.{contains_filter}
 use Rattle.clip_terms.proofs.Strict.{entries_in_order}

@@ -7,7 +7,7 @@ ghost use Rattle.clip_model.specs.History.{replay};
 ghost use Rattle.clip_engine.specs.Found.{ids_bytes};
 
 use crate::found::{add_number, add_text};
-use clip_registry::View;
+use clip_match::View;
 use clip_standing::Entry;
 use clip_words::NoMemory;
 use std::alloc::Global;

@@ -1,7 +1,7 @@
 -- The lines of a view are those of the queries that are live.
 use Rattle.std.proofs.Common.{◌≡◌, ℕ, List, [], ◌∙◌, ap, filter, map, subst}
 use Rattle.clip_model.specs.History.{History, Registered, is_live}
-use Rattle.clip_segment.specs.Segment.{all_entries}
+use Rattle.clip_indexed.specs.Segment.{all_entries}
 use Rattle.clip_registry.specs.RegistryState.{RegistryState, IsWhole}
 use Rattle.clip_front.specs.Outcome.{Follows, OfKept}
 use Rattle.clip_keeping.specs.Live.{AreLive, line_of}

@@ -4,7 +4,7 @@ use Rattle.json.specs.Print.{print}
 use Rattle.json.specs.Token.{Token, key, string}
 use Rattle.clip_model.specs.History.{History, is_live}
 use Rattle.clip_model.specs.Standing.{Standing}
-use Rattle.clip_segment.specs.Segment.{all_entries}
+use Rattle.clip_indexed.specs.Segment.{all_entries}
 use Rattle.clip_registry.specs.RegistryState.{RegistryState, IsWhole}
 use Rattle.clip_protocol.specs.Request.{Listing, register, value_of}
 use Rattle.clip_protocol.specs.Steps.Printing.{data_tokens}

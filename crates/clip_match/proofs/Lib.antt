@@ -1,12 +1,12 @@
 pub mod Added
 pub mod ById
 pub mod Due
+pub mod Few
+pub mod Judgings
+pub mod Marks
 pub mod Places
 pub mod Positions
 pub mod Readings
-pub mod Marks
-pub mod Few
-pub mod Judgings
+pub mod Sent
 pub mod Sorted
 pub mod Whole
-pub mod Sent

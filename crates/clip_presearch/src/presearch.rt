@@ -1,14 +1,15 @@
 //! Candidates: the entries that are tried on an article.
 ghost use Rattle.std.specs.Prelude.{◌≡◌, ◌++◌, map, IfOk, OnOk};
 ghost use Rattle.clip_extract.specs.Covering.{article_keys};
-ghost use Rattle.clip_segment.specs.Segment.{IsRising, positions_sharing};
+ghost use Rattle.clip_indexed.specs.Segment.{IsRising};
+ghost use Rattle.clip_segment.specs.Segment.{positions_sharing};
 ghost use Rattle.clip_match.specs.Candidates.{candidates_of, MissesNone, AreRegistered};
 ghost use Rattle.clip_match.specs.Steps.Positions.{live_with};
 
 use clip_extract::covering_law;
+use clip_match::View;
 use clip_meaning::Article;
-use clip_registry::View;
-use clip_segment::{PositionsRead, Segment};
+use clip_segment::{PositionsRead, Segment, SegmentReading};
 use clip_standing::Entry;
 use clip_terms::Asking;
 use clip_words::NoMemory;
@@ -24,7 +25,7 @@ fn find_positions<'a>(
     ensures { OnOk result (positions.new.items ≡ positions_sharing (article_keys asking.now.fields) segment.now) }
 {
     let mut read = PositionsRead::none();
-    let reading = segment.read(alloc, asking, &mut read)?;
+    let reading = SegmentReading::of(alloc, segment, asking, &mut read)?;
     reading.sharers(positions, &mut read)
 }
 

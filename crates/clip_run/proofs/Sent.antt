@@ -14,7 +14,7 @@ use Rattle.std.proofs.sync.Arc.TheSendSync as arc_sent
 use Rattle.std.proofs.sync.atomic.AtomicUsize.TheSendSync as counter_sent
 use Rattle.clip_words.proofs.NoMemory.TheSendSync as no_memory_sent
 use Rattle.clip_words.proofs.pool.WordPool.TheSendSync as pool_sent
-use Rattle.clip_registry.proofs.Sent.{registrar_send, view_is_send, view_is_sync}
+use Rattle.clip_match.proofs.Sent.{registrar_send, view_send, view_sync}
 use Rattle.clip_protocol.proofs.judged.JudgedDraft.TheSendSync as judged_sent
 use Rattle.clip_protocol.proofs.Sent.{found_send}
 use Rattle.clip_front.proofs.settings.Settings.TheSendSync as settings_sent
@@ -39,10 +39,10 @@ ruleset parts = (
 )
 
 batch_send : IsSend batch.the_row
-batch_send = declared_send batch.the_type (search sendable, (search sendable, (view_is_send, (search parts, tt))))
+batch_send = declared_send batch.the_type (search sendable, (search sendable, (view_send, (search parts, tt))))
 
 batch_sync : IsSync batch.the_row
-batch_sync = declared_sync batch.the_type (search sendable, (search sendable, (view_is_sync, (search parts, tt))))
+batch_sync = declared_sync batch.the_type (search sendable, (search sendable, (view_sync, (search parts, tt))))
 
 pending_send : IsSend pending.the_row
 pending_send = variants_send pending.enum ((search parts, tt), ((batch_send, tt), tt))

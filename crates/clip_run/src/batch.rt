@@ -8,10 +8,9 @@ ghost use Rattle.clip_run.specs.Due.{IsDue, due_to};
 
 use crate::finding::{hits_found, views_to_show, wants_alerts};
 use clip_front::Settings;
-use clip_match::{DueEntries, Gate, entries_due};
+use clip_match::{DueEntries, Gate, View, entries_due};
 use clip_meaning::Article;
 use clip_protocol::{AlertsSaid, Found, JudgedDraft, Shown};
-use clip_registry::View;
 use clip_words::{NoMemory, WordPool};
 use std::alloc::Global;
 

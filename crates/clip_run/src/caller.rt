@@ -6,7 +6,8 @@ ghost use Rattle.clip_run.specs.Seated.{IsOnly};
 
 use clip_desk::{Desk, DeskName, Nudge, Refused, Seat, UpdateLog};
 use clip_front::Registry;
-use clip_registry::{MergeTurn, View};
+use clip_match::View;
+use clip_registry::MergeTurn;
 use clip_standing::{Applied, Command};
 use clip_words::NoMemory;
 use crossbeam_channel::Sender;

@@ -8,7 +8,8 @@ ghost use Rattle.clip_registry.specs.RegistryState.{beginning, state_after};
 ghost use Rattle.clip_registry.specs.Steps.Turns.{TakesTurns};
 
 use clip_front::Registry;
-use clip_registry::{Registrar, merge_all};
+use clip_match::Registrar;
+use clip_registry::merge_all;
 use clip_standing::{Applied, Command, Refused};
 use clip_words::NoMemory;
 use std::alloc::Global;

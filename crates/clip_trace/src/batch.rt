@@ -4,9 +4,8 @@ ghost use Rattle.clip_standing.specs.Alerts.{alerts_value};
 ghost use Rattle.clip_trace.specs.Event.{found_of, found_after};
 ghost use Rattle.clip_trace.specs.Schedule.{fresh_batch, with_matched};
 
-use clip_match::{match_article, match_batch};
+use clip_match::{View, match_article, match_batch};
 use clip_meaning::Article;
-use clip_registry::View;
 use clip_standing::Alerts;
 use clip_words::NoMemory;
 use std::alloc::Global;

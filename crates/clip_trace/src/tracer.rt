@@ -9,9 +9,10 @@ ghost use Rattle.clip_trace.specs.Schedule.{Step, IsDue, IsDueTo, after, nothing
 use crate::batch::Batch;
 use crate::event::{Event, TraceAnswer};
 use crate::limits::{MOST_BATCHES, MOST_MERGES};
+use clip_match::{MergeJob, Registrar};
 use clip_meaning::Article;
 use clip_model::{MOST_ARTICLES, MOST_CALLERS};
-use clip_registry::{Installed, MergeJob, Registrar};
+use clip_registry::Installed;
 use clip_standing::{Command, Refused};
 use clip_words::NoMemory;
 use std::alloc::Global;

@@ -6,9 +6,8 @@ ghost use Rattle.clip_listen.specs.Heard.{note_value, notes_of, told_all};
 
 use clip_ledger::Ledger;
 use clip_listen::{Audience, Note, deliver_to};
-use clip_match::match_article;
+use clip_match::{View, match_article};
 use clip_meaning::Article;
-use clip_registry::View;
 use clip_words::NoMemory;
 use std::alloc::Global;
 

@@ -1,8 +1,7 @@
 //! Three queries and three articles.
 use crate::telling::{answered, call, refused};
-use clip_match::{HitsFound, OpenGate, entries_due, match_article, match_pieces};
+use clip_match::{HitsFound, OpenGate, Registrar, View, entries_due, match_article, match_pieces};
 use clip_meaning::Article;
-use clip_registry::{Registrar, View};
 use clip_samples::article;
 use clip_standing::{Alerts, Command, Standing};
 use clip_words::NoMemory;

@@ -4,7 +4,8 @@ ghost use Rattle.clip_model.specs.History.{fits};
 ghost use Rattle.clip_standing.specs.Command.{command_of};
 
 use crate::telling::{answered, call, refused};
-use clip_registry::{Installed, MergeJob, Registrar};
+use clip_match::{MergeJob, Registrar};
+use clip_registry::Installed;
 use clip_samples::{owned, standing};
 use clip_standing::{Applied, Command, Refused};
 use clip_words::NoMemory;

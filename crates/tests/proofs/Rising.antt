@@ -7,7 +7,7 @@ use Rattle.std.proofs.lemmas.List.Quantifiers.{all_pairs_push}
 use Rattle.std.specs.List.{All}
 use Rattle.clip_merge.specs.Live.{AreRising}
 use Rattle.clip_model.specs.History.{Registered}
-use Rattle.clip_segment.specs.Segment.{IsRising}
+use Rattle.clip_indexed.specs.Segment.{IsRising}
 
 -- where the seqs rise, the entries do
 pub entries_rise : (entries : List Registered) → AreRising (map (λ e. e.seq) entries) → IsRising entries

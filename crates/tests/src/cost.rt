@@ -1,7 +1,6 @@
 //! What an article costs: how many queries are tried for it, how many plans judged, how many positions read.
 use crate::script::answer;
-use clip_match::{HitsFound, entries_due};
-use clip_registry::Registrar;
+use clip_match::{HitsFound, Registrar, entries_due};
 use clip_samples::{article, standing};
 use clip_standing::Command;
 use std::test::Fail;

@@ -1,8 +1,7 @@
 //! Hits: where in an article a query holds.
 use crate::script::answer;
-use clip_match::{HitsFound, entries_due};
+use clip_match::{HitsFound, Registrar, entries_due};
 use clip_meaning::Hit;
-use clip_registry::Registrar;
 use clip_samples::{article, standing};
 use clip_standing::{Alert, Command};
 use std::alloc::{AllocError, Global};

@@ -4,7 +4,7 @@ use crate::making::{segment_of, text_key};
 use clip_extract::{Key, keys};
 use clip_presearch::article_keys;
 use clip_samples::{article, owned};
-use clip_segment::Segment;
+use clip_segment::{Segment, positions_with_key};
 use clip_syntax::read_query;
 use std::alloc::Global;
 use std::collections::BTreeMap;
@@ -109,7 +109,7 @@ fn places_by_key(alloc: Global, texts: &[&str]) -> Result<Places, Fail> {
 fn check_keys(rt: &impl Abort, segment: &Segment, places: &Places, keys: &[Key]) {
     for key in keys {
         let wanted: &[u32] = places.get(key).map_or(&[], |places| places.as_slice());
-        assert!(rt; segment.with_key(key) == wanted);
+        assert!(rt; positions_with_key(segment, key) == wanted);
     }
 }
 
@@ -121,7 +121,7 @@ fn an_index_has_under_each_key_what_a_map_has(rt: HostRuntime) -> Result<(), Fai
     let article = article(alloc, "a1", &[("text", WORDS), ("title", WORDS)])?;
     check_keys(&rt, &segment, &places, &article_keys(alloc, &article)?);
     for (key, wanted) in places.iter() {
-        assert!(rt; segment.with_key(key) == wanted.as_slice());
+        assert!(rt; positions_with_key(&segment, key) == wanted.as_slice());
     }
     Ok(())
 }
@@ -139,14 +139,14 @@ fn numbered_texts(alloc: Global, count: u32) -> Result<Vec<String>, Fail> {
 fn check_count(rt: &impl Abort, alloc: Global, count: u32) -> Result<(), Fail> {
     let segment = segment_of(alloc, &numbered_texts(alloc, count)?)?;
     let shared = text_key(alloc, "tea")?;
-    let all = segment.with_key(&shared);
+    let all = positions_with_key(&segment, &shared);
     assert!(rt; all.len() == count as usize);
     for (place, found) in all.iter().enumerate() {
         assert!(rt; *found as usize == place);
     }
     let last = count.saturating_sub(1);
     let own = text_key(alloc, &format!(in alloc; "own{last}")?)?;
-    assert!(rt; segment.with_key(&own) == [last].as_slice());
+    assert!(rt; positions_with_key(&segment, &own) == [last].as_slice());
     Ok(())
 }
 

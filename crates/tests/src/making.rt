@@ -2,8 +2,9 @@
 ghost use Rattle.std.specs.Prelude.{◌≡◌, IfOk};
 
 use clip_extract::Key;
+use clip_indexed::MOST_POSITIONS;
 use clip_samples::{article, standing};
-use clip_segment::{MOST_POSITIONS, Segment};
+use clip_segment::Segment;
 use clip_standing::{Alert, Alerts, Entry, Standing};
 use std::alloc::{AllocError, Global};
 use std::sync::{Arc, ArcStr};

@@ -1,7 +1,7 @@
 //! The candidates of articles among ten thousand queries.
 use crate::making::query_of;
 use crate::script::{answer, candidates_of};
-use clip_registry::{Registrar, View};
+use clip_match::{Registrar, View};
 use clip_standing::Command;
 use std::alloc::{AllocError, Global};
 use std::test::Fail;

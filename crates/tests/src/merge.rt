@@ -1,7 +1,7 @@
 //! Which segments are merged next, and segments with the live entries of others: worked examples.
 ghost use Rattle.std.specs.Prelude.{◌≡◌, ◌∷◌, [], IfOk, map};
 ghost use Rattle.std.specs.Arc.{arc_value};
-ghost use Rattle.clip_segment.specs.Segment.{all_entries};
+ghost use Rattle.clip_indexed.specs.Segment.{all_entries};
 
 use crate::making::{entry, segment, segment_of};
 use clip_merge::{Live, merge, plan, plan_turn, purge};

@@ -1,6 +1,7 @@
 //! The registry, candidates and alerts: scripts worked by hand, and limits.
 use crate::script::{Step, answer, play};
-use clip_registry::{Registrar, merge_all};
+use clip_match::Registrar;
+use clip_registry::merge_all;
 use clip_samples::standing;
 use clip_standing::Command;
 use std::alloc::Global;

@@ -1,10 +1,9 @@
 //! Scripts: steps with a registrar, and what each is to give.
 use crate::showing::told;
-use clip_match::match_batch;
+use clip_match::{Registrar, View, match_batch};
 use clip_meaning::Article;
 use clip_model::MOST_CALLERS;
 use clip_presearch::candidates;
-use clip_registry::{Registrar, View};
 use clip_samples::{article, owned, standing};
 use clip_segment::Segment;
 use clip_standing::{Command, Entry, Standing};

@@ -1,7 +1,7 @@
 //! Standing queries, entries and segments: worked examples and limits.
 use crate::making::{segment, text_key};
 use crate::showing::{places, tree};
-use clip_segment::Segment;
+use clip_segment::{Segment, positions_with_key};
 use clip_standing::{Standing, StandingFault};
 use clip_words::NoMemory;
 use std::alloc::{AllocError, Global};
@@ -58,7 +58,7 @@ fn a_standing_query_is_read_or_its_first_refusal_is_answered(rt: HostRuntime) ->
 /// The positions of the entries that hold a word of the field `text`, each with a space after it.
 fn positions(alloc: Global, segment: &Segment, word: &str) -> Result<String, AllocError> {
     let key = text_key(alloc, word)?;
-    places(alloc, segment.with_key(&key))
+    places(alloc, positions_with_key(segment, &key))
 }
 
 /// Rows: a word, and the positions of the entries that hold it.

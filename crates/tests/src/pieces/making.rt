@@ -1,6 +1,6 @@
 //! What the tests give to calls: a view of three queries, and three articles.
+use clip_match::{Registrar, View};
 use clip_meaning::Article;
-use clip_registry::{Registrar, View};
 use clip_samples::{article, standing};
 use clip_standing::Command;
 use std::alloc::Global;

@@ -3,8 +3,7 @@ use Rattle.std.specs.Arc.{arc_value}
 use Rattle.std.proofs.lemmas.List.{append_assoc, append-nil, drop_all, drop_more}
 use Rattle.clip_extract.specs.Covering.{article_keys}
 use Rattle.clip_model.specs.History.{Registered}
-use Rattle.clip_segment.specs.Segment.{IsRising}
-use Rattle.clip_segment.specs.Segment.{all_entries}
+use Rattle.clip_indexed.specs.Segment.{IsRising, all_entries}
 use Rattle.clip_match.specs.Candidates.{candidates_of, MissesNone, AreRegistered}
 use Rattle.clip_match.specs.Steps.Positions.{live_with}
 use Rattle.clip_match.proofs.Positions.{live_split}

@@ -1,7 +1,7 @@
 use Rattle.std.proofs.Common.{◌≡◌, ◌++◌, map, drop}
 use Rattle.std.specs.Arc.{arc_value}
 use Rattle.clip_extract.specs.Covering.{article_keys}
-use Rattle.clip_segment.specs.Segment.{all_entries}
+use Rattle.clip_indexed.specs.Segment.{all_entries}
 use Rattle.clip_match.specs.Steps.Positions.{live_with}
 use Rattle.clip_presearch.proofs.presearch.candidates.Given as goal
 

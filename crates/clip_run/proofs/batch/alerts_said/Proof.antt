@@ -15,7 +15,7 @@ use denote.Signature.{plain, types_at}
 use denote.Triple.Entry.{alive}
 use denote.Triple.Walked.{says, Stays, stay_none_ref, Goes-none_ref, ends_at}
 use Rattle.clip_meaning.specs.contracts.article.Article.{the_row as article_row}
-use Rattle.clip_registry.specs.contracts.view.View.{the_row as view_row}
+use Rattle.clip_match.proofs.Sent.{view_row}
 use Rattle.clip_match.specs.Alerts.{alerts_due}
 use Rattle.clip_protocol.specs.contracts.said.AlertsSaid.{the_row}
 use Rattle.clip_run.specs.contracts.batch.alerts_said as f

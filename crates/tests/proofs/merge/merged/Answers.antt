@@ -4,7 +4,7 @@ use Rattle.std.specs.Arc.{arc_value}
 use Rattle.clip_merge.specs.Live.{AreRising}
 use Rattle.clip_merge.proofs.Named.{named_fewer}
 use Rattle.clip_model.specs.History.{Registered}
-use Rattle.clip_segment.specs.Segment.{all_entries}
+use Rattle.clip_indexed.specs.Segment.{all_entries}
 use Rattle.tests.proofs.Rising.{entries_rise}
 use Rattle.tests.proofs.merge.merged.Goals as goal
 
