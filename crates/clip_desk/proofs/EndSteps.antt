@@ -1,24 +1,24 @@
 -- Each step of an end keeps the rule.
-use Rattle.std.proofs.Common.{◌≡◌, ℕ, ◌≢◌, List, [], ◌∷◌, ◌++◌, fold, set, refl, ap, ◌∙◌, subst, ⊎_elim, Option}
+use Rattle.std.proofs.Common.{◌≡◌, ℕ, ◌≢◌, List, [], ◌∷◌, ◌++◌, fold, set, refl, ◌∙◌, subst, ⊎_elim, Option}
 use Rattle.std.proofs.Common.{None, Some, Result, Ok, Err, MatchResult}
 use mathlib.Core.Option.{some}
 use lib.ListN.{get_elem?}
 use Rattle.left_right.specs.Register.{Admits, TurnsAt, Forks, Merges}
 use Rattle.atomic_table.proofs.Lists.{at_set, at_snoc}
-use Rattle.clip_desk.specs.declared.published.Published.{Published}
+use Rattle.clip_desk.specs.Published.{PublishedIs}
 use Rattle.clip_desk.specs.Ends.{Continues, Fits, Keeps, Sees}
 use Rattle.clip_desk.proofs.Beginnings.{prefix_self, prefix_trans}
 
-pub continues_self : (x : Published) → Continues x x
+pub continues_self : (x : PublishedIs) → Continues x x
 continues_self x = (refl, refl, refl, prefix_self x.view.history)
 
-pub fits_later : (x y : Published) (v : Option Published) → Continues x y → Fits x v → Fits y v
+pub fits_later : (x y : PublishedIs) (v : Option PublishedIs) → Continues x y → Fits x v → Fits y v
 fits_later x y None on fits = tt
 fits_later x y (Some p) on fits =
     (on.0 ∙ fits.0, on.1 ∙ fits.1, on.2 ∙ fits.2, prefix_trans p.view.history x.view.history y.view.history fits.3 on.3)
 
-fits_set : (x : Published) (views : List (Option Published)) (seat : ℕ) (w : Option Published)
-    → ((j : ℕ) (u : Option Published) → get_elem? views j ≡ some u → Fits x u) → Fits x w → Keeps x (set views seat w)
+fits_set : (x : PublishedIs) (views : List (Option PublishedIs)) (seat : ℕ) (w : Option PublishedIs)
+    → ((j : ℕ) (u : Option PublishedIs) → get_elem? views j ≡ some u → Fits x u) → Fits x w → Keeps x (set views seat w)
 fits_set x views seat w others mine j u e = ⊎_elim
     (λ (t : (j ≡ seat) × (w ≡ u)). subst (Fits x) t.1 mine)
     (λ (t : (j ≢ seat) × (get_elem? views j ≡ some u)). others j u t.1)
@@ -28,20 +28,21 @@ pub admits : Admits Keeps None
 admits x views h j v e = ⊎_elim (h j v) (λ (t : None ≡ v). subst (Fits x) t tt) (at_snoc views None v j e)
 
 -- a value that continues the one before is published, or is there already
-pub turns : (seat : ℕ) (v : Option Published) (x y : Published) → Continues x y → TurnsAt Keeps seat v x y Sees
+pub turns : (seat : ℕ) (v : Option PublishedIs) (x y : PublishedIs) → Continues x y → TurnsAt Keeps seat v x y Sees
 turns seat v x y on views h at = (
   Some y,
   fits_set y views seat (Some y) (λ j u e. fits_later x y u on (h j u e)) (continues_self y),
   (refl, fits_later x y v on (h seat v at)),
 )
 
-pub forks : (seat : ℕ) (v : Option Published) → Forks Keeps seat v v v
+pub forks : (seat : ℕ) (v : Option PublishedIs) → Forks Keeps seat v v v
 forks seat v x views h at j u e = ⊎_elim
     (λ (t : get_elem? (set views seat v) j ≡ some u). fits_set x views seat v h (h seat v at) j u t)
     (λ (t : v ≡ u). subst (Fits x) t (h seat v at))
     (at_snoc (set views seat v) v u j e)
 
-pub merges : (seat : ℕ) (v : Option Published) (other : ℕ) (w : Option Published) → Merges Keeps seat v other w w None
+pub merges : (seat : ℕ) (v : Option PublishedIs) (other : ℕ) (w : Option PublishedIs)
+    → Merges Keeps seat v other w w None
 merges seat v other w x views h at apart there =
     let theirs : Fits x w = ⊎_elim
     (λ (t : (other ≡ seat) × (w ≡ w)). absurd (apart t.0))
@@ -50,8 +51,8 @@ merges seat v other w x views h at apart there =
     fits_set x (set views seat w) other None (fits_set x views seat w h theirs) tt
 
 -- the last of the operations decides
-pub last_decides : (s : Published) (ops : List Published) (next : Published)
-    → fold (λ (x y : Published). y) s (ops ++ next ∷ []) ≡ next
+pub last_decides : (s : PublishedIs) (ops : List PublishedIs) (next : PublishedIs)
+    → fold (λ (x y : PublishedIs). y) s (ops ++ next ∷ []) ≡ next
 last_decides s [] next = refl
 last_decides s (op ∷ ops) next = last_decides op ops next
 

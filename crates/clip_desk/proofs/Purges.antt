@@ -44,13 +44,6 @@ purged_before state n m le is = (
       (λ r live. not_dead_before state.history n m le r live) segment all) state.segments is.1,
 )
 
--- no segment has no dead entry
-pub purged_none : (state : RegistryState) → state.segments ≡ [] → IsPurgedAt state 0
-purged_none state none = (
-  omega arith,
-  subst (All (All (WasNotDead (take 0 state.history)))) (sym none) (All-nil (All (WasNotDead (take 0 state.history)))),
-)
-
 -- ---- at a purge
 
 all_pass : (p : Registered → Bool) (rs : List Registered) → All (λ r. p r ≡ true) (filter p rs)
@@ -93,15 +86,20 @@ segments_stay h n segments (Register (s ∷ ss)) all =
 segments_stay h n segments (Delete ids) all = all
 segments_stay h n segments Clear all = All-nil (All (WasNotDead (take n h)))
 
-pub purged_after : (state : RegistryState) (caller : ℕ) (command : Command) (n : ℕ) → IsPurgedAt state n
+purged_still : (state : RegistryState) (caller : ℕ) (command : Command) (n : ℕ) → IsPurgedAt state n
     → IsPurgedAt (state_after state caller command) n
-purged_after state caller command n is =
+purged_still state caller command n is =
     let h = state.history in
     let e = next_entry h caller command in (
       omega (arith, is.0, length-append h (e ∷ [])),
       subst (λ (front : History). All (All (WasNotDead front)) (state_after state caller command).segments)
           (sym (take-append-le n h (e ∷ []) is.0)) (segments_stay h n state.segments command is.1),
     )
+
+pub purged_after : (before after : RegistryState) (caller : ℕ) (command : Command) (n : ℕ)
+    → after ≡ state_after before caller command → IsPurgedAt before n → IsPurgedAt after n
+purged_after before after caller command n is was =
+    subst (λ (s : RegistryState). IsPurgedAt s n) (sym is) (purged_still before caller command n was)
 
 -- ---- after a merge
 

@@ -17,6 +17,7 @@ use Rattle.clip_desk.proofs.chronicle.SeenHistory.TheSendSync as seen_history_se
 use Rattle.clip_desk.proofs.chronicle.Head.TheSendSync as head_sent
 use Rattle.clip_desk.proofs.rights.Right.TheSendSync as right_sent
 use Rattle.clip_desk.specs.contracts.published.Published as published
+use Rattle.clip_desk.specs.contracts.published.Published.TheInside as published_inside
 use Rattle.clip_desk.specs.declared.update_listener.UpdateListener as heard
 use Rattle.clip_desk.specs.contracts.update_listeners.UpdateListeners as updates
 use Rattle.clip_desk.specs.contracts.update_listeners.UpdateListeners.TheInside as updates_inside
@@ -29,14 +30,14 @@ use Rattle.clip_desk.specs.contracts.desk.Desk as desk
 use Rattle.clip_desk.specs.contracts.desk.Desk.TheInside as desk_inside
 
 published_send : IsSend published.the_row
-published_send =
-    declared_send published.the_type
-    (view_is_send, (seen_history_sent.the_send, (search sendable, (search sendable, tt))))
+published_send = view_send published_inside.the_row _ _ _ _
+    (declared_send published_inside.the_type
+    (view_is_send, (seen_history_sent.the_send, (search sendable, (search sendable, tt)))))
 
 published_sync : IsSync published.the_row
-published_sync =
-    declared_sync published.the_type
-    (view_is_sync, (seen_history_sent.the_sync, (search sendable, (search sendable, tt))))
+published_sync = view_sync published_inside.the_row _ _ _ _
+    (declared_sync published_inside.the_type
+    (view_is_sync, (seen_history_sent.the_sync, (search sendable, (search sendable, tt)))))
 
 ruleset global = (
   sendable,

@@ -2,6 +2,7 @@ pub mod Callers
 pub mod Chronicle
 pub mod Ends
 pub mod Locked
+pub mod Published
 pub mod Purges
 pub mod Rights
 pub mod Seats

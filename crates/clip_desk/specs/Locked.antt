@@ -5,8 +5,10 @@ use Rattle.logbook.specs.Pages.{Book, Named}
 use Rattle.clip_model.specs.declared.limits.TheConstants.{MOST_CALLERS}
 use Rattle.clip_registry.specs.RegistryState.{RegistryState, state_code}
 use Rattle.clip_desk.specs.declared.chronicle.SeenHistory.{SeenHistory}
-use Rattle.clip_desk.specs.declared.published.Published.{Published}
+use Rattle.clip_desk.specs.Callers.{IsBy}
 use Rattle.clip_desk.specs.Chronicle.{head_of}
+use Rattle.clip_desk.specs.Published.{PublishedIs}
+use Rattle.clip_desk.specs.Purges.{IsPurgedAt}
 use Rattle.clip_desk.specs.Seats.{SeatIs}
 use Rattle.clip_desk.specs.Updates.{Heard, heard_code}
 
@@ -25,17 +27,20 @@ locked_code =
     (λ s. (s.registry, (s.purged_at, (s.purges, s.updates))))
     (λ p. record { registry = p.0; purged_at = p.1.0; purges = p.1.1.0; updates = p.1.1.1 }) (λ _. refl)
 
--- the registrar, the chronicle and the published value agree, and are this desk's, which keeps its history or not
+-- The registrar, the chronicle and the published value agree, and are this desk's, which keeps its history or not. The
+-- history is of its callers, and no segment has an entry that was dead at the last purge.
 pub record IsSettled (book : Book) (callers : ℕ) (keeps : Bool) (registrar : RegistryState) (head : Named)
-    (seen_history : SeenHistory) (shown : Published) : Type 0 where
+    (seen_history : SeenHistory) (shown : PublishedIs) : Type 0 where
   pub keeps_is : registrar.keeps ≡ keeps
   pub log : seen_history.seen.log ≡ registrar.history
   pub book_is : seen_history.seen.book ≡ book
   pub head_is : head ≡ head_of book
   pub shown_is : shown.view ≡ registrar
-  pub shown_book : shown.seen_history.seen.book ≡ book
+  pub shown_book : shown.book ≡ book
   pub shown_callers : shown.callers ≡ callers
   pub few : callers ≤ MOST_CALLERS
+  pub by : IsBy callers registrar.history
+  pub purged : IsPurgedAt registrar shown.purged_at
 
 -- a seat of the desk
 abbrev pub IsSeatOf : Book → ℕ → SeatIs → Type 0

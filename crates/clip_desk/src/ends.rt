@@ -99,7 +99,7 @@ pub(crate) fn show<R: Wait>(
     purged_at: usize,
 ) -> Result<(), AllocError>
     requires log { seen_history.seen.log ≡ view.history }
-    requires book { seen_history.seen.book ≡ writer.old.desk.shown.value.seen_history.seen.book }
+    requires book { seen_history.seen.book ≡ writer.old.desk.shown.value.book }
     requires later { IsPrefix writer.old.desk.shown.value.view.history view.history }
     requires callers { IsBy writer.old.desk.shown.value.callers view.history }
     requires keeps { view.keeps ≡ writer.old.desk.shown.value.view.keeps }
@@ -127,7 +127,7 @@ pub(crate) fn show_surely<R: Wait>(
     seen_history: SeenHistory,
 )
     requires log { seen_history.seen.log ≡ view.history }
-    requires book { seen_history.seen.book ≡ writer.old.desk.shown.value.seen_history.seen.book }
+    requires book { seen_history.seen.book ≡ writer.old.desk.shown.value.book }
     requires later { IsPrefix writer.old.desk.shown.value.view.history view.history }
     requires callers { IsBy writer.old.desk.shown.value.callers view.history }
     requires keeps { view.keeps ≡ writer.old.desk.shown.value.view.keeps }

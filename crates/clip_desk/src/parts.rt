@@ -112,8 +112,8 @@ fn first_values(
 ) -> Result<(Published, Published, Published), NoMemory>
     requires { (seen_history.now.seen.log ≡ []) × (registrar.now.history ≡ []) × (registrar.now.segments ≡ []) }
     ensures same { IfOk result (λ t. (t.1 ≡ t.0) × (t.2 ≡ t.0)) }
-    ensures first { IfOk result (λ t. (t.0.view ≡ registrar.now) × (t.0.seen_history ≡ seen_history.now)
-        × (t.0.callers ≡ callers)) }
+    ensures first { IfOk result (λ t. (t.0.view ≡ registrar.now) × (t.0.book ≡ seen_history.now.seen.book)
+        × (t.0.callers ≡ callers) × (t.0.purged_at ≡ 0)) }
 {
     let first = Published {
         view: registrar.view()?,
@@ -137,7 +137,8 @@ fn open_ends<R: Wait>(
     requires { (seen_history.now.seen.log ≡ []) × (registrar.now.history ≡ []) × (registrar.now.segments ≡ [])
         × (0 < callers) × (callers ≤ MOST_CALLERS) }
     ensures shown { IfOk result (λ w. (w.desk.shown.value.view ≡ registrar.now)
-        × (w.desk.shown.value.seen_history ≡ seen_history.now) × (w.desk.shown.value.callers ≡ callers)) }
+        × (w.desk.shown.value.book ≡ seen_history.now.seen.book) × (w.desk.shown.value.callers ≡ callers)
+        × (w.desk.shown.value.purged_at ≡ 0)) }
     ensures told { IfOk result (λ w. IsOf seen_history.now.seen.book callers (view w.desk.place)) }
     ensures keeps { IfOk result (λ w. seen_keeps (view w.desk.place) ≡ registrar.now.keeps) }
 {

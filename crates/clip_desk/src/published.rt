@@ -1,10 +1,5 @@
 //! What the writer publishes and the seats read, and the rule over their ends.
-ghost use Rattle.std.specs.Prelude.{◌≡◌, ℕ, IfOk, Some, MatchResult};
-ghost use Rattle.std.specs.Coded.{Coded-set};
-ghost use Rattle.std.proofs.Props.{props};
-ghost use Rattle.clip_model.specs.History.{history_code};
-ghost use Rattle.clip_desk.specs.Callers.{IsBy};
-ghost use Rattle.clip_desk.specs.Purges.{IsPurgedAt};
+ghost use Rattle.std.specs.Prelude.{◌≡◌, IfOk};
 
 use crate::chronicle::SeenHistory;
 use atomic_table::{Join, Split};
@@ -14,9 +9,10 @@ use left_right::Absorb;
 use left_right::reader::Reader;
 use left_right::writer::Writer;
 use std::alloc::AllocError;
+use std::marker::Model;
 
-/// What a desk publishes: a view, the beginning that its history is, how many callers the desk has, and how long the
-/// history was at the last purge.
+/// What a desk publishes: a view, the beginning that its history is, how many callers the desk has, all of whose the
+/// history is, and how long it was at the last purge, at which no entry of the view was dead.
 #[derive(Drop)]
 pub(crate) struct Published {
     /// The registry as it stood.
@@ -27,9 +23,27 @@ pub(crate) struct Published {
     pub(crate) callers: u32,
     /// How long its history was at the last purge, or 0 where there was none.
     pub(crate) purged_at: usize,
-    pub(crate) ghost same: { seen_history.seen.log ≡ view.history } by { Coded-set history_code _ _ },
-    pub(crate) ghost callers_are: { IsBy callers view.history },
-    pub(crate) ghost purged_is: { IsPurgedAt view purged_at } by { Prim.hlevel props },
+}
+
+impl Model for Published {
+    ghost use Rattle.std.specs.Prelude.{◌≡◌};
+    ghost use Rattle.clip_desk.specs.Callers.{IsBy};
+    ghost use Rattle.clip_desk.specs.Published.{PublishedIs, published_code};
+    ghost use Rattle.clip_desk.specs.Purges.{IsPurgedAt};
+
+    ghost Value = { PublishedIs };
+
+    ghost coded = { published_code };
+
+    ghost view = { λ p. record {
+      view = p.view;
+      book = p.seen_history.seen.book;
+      callers = p.callers;
+      purged_at = p.purged_at;
+    } };
+
+    ghost invariant = { λ p. (p.seen_history.seen.log ≡ p.view.history) × IsBy p.callers p.view.history
+        × IsPurgedAt p.view p.purged_at };
 }
 
 impl Published {

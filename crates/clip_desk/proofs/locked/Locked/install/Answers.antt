@@ -15,8 +15,8 @@ pub put-requires-clause-purged : goal.put-requires-clause-purged
 put-requires-clause-purged g c =
     let shown = c.self.inside.writer.desk.shown.value in
     let was : IsPurgedAt c.in_ok-next.next shown.purged_at =
-    subst (λ (s : RegistryState). IsPurgedAt s shown.purged_at)
-    (c.self.invariant.0.shown_is ∙ sym c.in_ok-next.ensures) shown.purged_is in
+    subst (λ (s : RegistryState). IsPurgedAt s shown.purged_at) (sym c.in_ok-next.ensures)
+    c.self.invariant.0.purged in
     let some : c.args.merged.entries
     ≡ filter (λ r. c.merged.invariant.is r.seq) (all_entries c.args.merged.sources) =
     subst (λ (m : Merge). m.entries ≡ filter (λ r. c.merged.invariant.is r.seq) (all_entries m.sources))
@@ -24,7 +24,8 @@ put-requires-clause-purged g c =
     let purged : IsPurgedAt c.install.new.self shown.purged_at =
     purged_installed c.in_ok-next.next c.install.new.self c.args.merged (λ r. c.merged.invariant.is r.seq)
     shown.purged_at (c.in_ok-install.ensures.done (ap Ok c.in-Done.is)) some was in
-    subst (IsPurgedAt c.install.new.self) (sym (ap (λ p. p.purged_at) c.published.ensures)) purged
+    let kept = ap (λ p. p.purged_at) (c.behind-self.view_is ∙ c.published.ensures) in
+    subst (IsPurgedAt c.install.new.self) (sym kept) purged
 
 -- proved by search alone: it stands here so that a wrong body is refused at once
 pub returns-in_ok-put-in-Done-clause-done : goal.returns-in_ok-put-in-Done-clause-done

@@ -28,7 +28,7 @@ returns-in_default-clause-same c =
 
 pub returns-clause-purged : goal.returns-clause-purged
 returns-clause-purged c =
-    let shown = c.in-Ok.shown in
+    let shown = c.shown.inside in
     let mine = ap (λ v. v.purged_at) c.self.view_is in
     let kept : c.args.self.now.purged_at ≤ shown.purged_at = omega (arith, mine, c.if-purged_at-self.false) in
-    purged_before shown.view c.args.self.now.purged_at shown.purged_at kept shown.purged_is
+    purged_before shown.view c.args.self.now.purged_at shown.purged_at kept c.shown.invariant.2
