@@ -6,9 +6,9 @@ use Rattle.std.proofs.lemmas.List.Elements.{filter-append}
 use Rattle.std.proofs.lemmas.List.Kept.{AllPairs-filter}
 use Rattle.std.proofs.lemmas.List.Sums.{count_by-le-length, length-filter, sum_by-cons}
 use Rattle.std.specs.List.{count_by}
-use Rattle.clip_segment.specs.Selecting.{AreFlagsOf, count_set, flagged, kept_of}
+use Rattle.clip_indexed.specs.Selecting.{AreFlagsOf, count_set, flagged, kept_of}
 use Rattle.clip_model.specs.History.{Registered}
-use Rattle.clip_segment.specs.Segment.{IsRising, all_entries, seqs_of}
+use Rattle.clip_indexed.specs.Segment.{IsRising, all_entries, seqs_of}
 use Rattle.clip_merge.specs.Live.{named, names}
 
 pub named_rising : (live : List ℕ) (entries : List Registered) → IsRising entries → IsRising (named live entries)

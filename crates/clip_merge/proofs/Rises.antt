@@ -4,7 +4,7 @@ use Rattle.std.proofs.Common.{arith, below_more, length-append, inl, inr}
 use Rattle.std.proofs.lemmas.Bool.{cases_lt}
 use Rattle.std.proofs.Math.Nat.{pow-suc}
 use Rattle.std.specs.Prelude.{Option, Some, None, IfSome}
-use Rattle.clip_segment.specs.Segment.{all_entries}
+use Rattle.clip_indexed.specs.Segment.{all_entries}
 use Rattle.clip_model.specs.History.{Registered}
 use Rattle.clip_model.specs.declared.limits.TheConstants.{RUN_LENGTH}
 use Rattle.clip_merge.specs.Plan.{AreFew, HasLevel, IsLevel, IsOldestRise, IsRise, IsRun}

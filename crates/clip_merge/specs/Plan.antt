@@ -1,7 +1,7 @@
 -- Levels of segments, and which neighbours are merged next.
 use Rattle.std.specs.Prelude.{◌≡◌, ℕ, ◌+◌, ◌-◌, ◌*◌, ◌<◌, ◌≤◌, ◌^◌, List, [], length, take, drop, slice_index_or}
 use Rattle.std.specs.List.{All}
-use Rattle.clip_segment.specs.Segment.{all_entries}
+use Rattle.clip_indexed.specs.Segment.{all_entries}
 use Rattle.clip_model.specs.History.{Registered}
 use Rattle.clip_model.specs.declared.limits.TheConstants.{RUN_LENGTH}
 

@@ -3,8 +3,8 @@ ghost use Rattle.std.specs.Prelude.{◌≡◌, ℕ, ◌+◌, IfSome, None, map};
 ghost use Rattle.std.specs.Arc.{arc_value};
 ghost use Rattle.clip_merge.specs.Plan.{AreFew, IsLevel, IsOldestRise, IsOldestRun, IsRise, IsRun, IsTurn};
 
+use clip_indexed::{Index, Segment};
 use clip_model::RUN_LENGTH;
-use clip_segment::Segment;
 use std::sync::Arc;
 
 /// The level of a length: how many divisions by `RUN_LENGTH`, rounding down, bring it below that.
@@ -23,7 +23,7 @@ fn level(len: usize) -> u32
 /// Where the oldest run of four neighbouring segments of one level begins, and where it ends: the position past its
 /// last segment. `None` where there is no such run. Takes no memory. Cost: a step for each segment, and for each of its
 /// levels.
-pub fn plan(segments: &[Arc<Segment>]) -> Option<(usize, usize)>
+pub fn plan<I: Index>(segments: &[Arc<Segment<I>>]) -> Option<(usize, usize)>
     ensures run { IfSome result (λ at. IsOldestRun (map arc_value segments.now) at.0 × (at.1 ≡ at.0 + RUN_LENGTH)) }
     ensures none { result ≡ None → (first : ℕ) → IsRun (map arc_value segments.now) first → ⊥ }
 {
@@ -41,7 +41,7 @@ pub fn plan(segments: &[Arc<Segment>]) -> Option<(usize, usize)>
 }
 
 /// Where the oldest segment stands behind which one has a higher level, or `None` where levels stay or fall.
-fn oldest_rise(segments: &[Arc<Segment>]) -> Option<usize>
+fn oldest_rise<I: Index>(segments: &[Arc<Segment<I>>]) -> Option<usize>
     ensures rise { IfSome result (IsOldestRise (map arc_value segments.now)) }
     ensures none { result ≡ None → (first : ℕ) → IsRise (map arc_value segments.now) first → ⊥ }
 {
@@ -63,7 +63,7 @@ fn oldest_rise(segments: &[Arc<Segment>]) -> Option<usize>
 /// or, where it finds none, all segments from the oldest on behind which one has a higher level. `None` where there are
 /// no such neighbours; then segments are few: three at most for each level up to that of all their entries together.
 /// Takes no memory. Cost: a step for each segment, and for each of its levels.
-pub fn plan_turn(segments: &[Arc<Segment>]) -> Option<(usize, usize)>
+pub fn plan_turn<I: Index>(segments: &[Arc<Segment<I>>]) -> Option<(usize, usize)>
     ensures turn { IfSome result (λ at. IsTurn (map arc_value segments.now) at.0 at.1) }
     ensures no_run { result ≡ None → (first : ℕ) → IsRun (map arc_value segments.now) first → ⊥ }
     ensures no_rise { result ≡ None → (first : ℕ) → IsRise (map arc_value segments.now) first → ⊥ }

@@ -8,7 +8,7 @@ use Rattle.std.proofs.lemmas.List.{get_or-map, get_or_default, map-append, take_
 use Rattle.std.proofs.lemmas.List.Elements.{filter-append}
 use Rattle.std.specs.List.{Contains}
 use Rattle.clip_pieces.specs.Marked.{is_lost}
-use Rattle.clip_segment.specs.Segment.{all_entries, seqs_of}
+use Rattle.clip_indexed.specs.Segment.{all_entries, seqs_of}
 use Rattle.clip_merge.specs.Live.{names}
 use Rattle.clip_model.specs.History.{Registered}
 use Rattle.clip_registry.specs.Steps.LiveFlags.{died, flags_of, without, without_all}

@@ -12,7 +12,7 @@ use Rattle.std.specs.FinMap.{get-empty, len-remove, empty_of_len}
 use Rattle.clip_words.specs.Order.{bytes_cmp}
 use Rattle.clip_merge.specs.Plan.{neighbours}
 use Rattle.clip_registry.proofs.Entries.{all_entries-append}
-use Rattle.clip_segment.specs.Segment.{IsRising, all_entries}
+use Rattle.clip_indexed.specs.Segment.{IsRising, all_entries}
 use Rattle.clip_model.specs.History.{Registered, Registry, replay, is_live}
 use Rattle.clip_model.proofs.ById.{bytes_same}
 use Rattle.clip_model.proofs.Live.{removed_else}

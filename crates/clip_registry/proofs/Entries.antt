@@ -1,7 +1,7 @@
 -- The entries of segments one after another.
 use Rattle.std.proofs.Common.{◌≡◌, List, [], ◌∷◌, ◌++◌, refl, sym, ap, ◌∙◌, append_assoc}
 use Rattle.clip_model.specs.History.{Registered}
-use Rattle.clip_segment.specs.Segment.{all_entries}
+use Rattle.clip_indexed.specs.Segment.{all_entries}
 
 pub all_entries-append : (segments others : List (List Registered)) → all_entries (segments ++ others)
     ≡ all_entries segments ++ all_entries others

@@ -5,7 +5,7 @@ use Rattle.std.proofs.lemmas.List.{take-append-drop, drop-drop, get_or_default, 
 use Rattle.std.proofs.lemmas.List.Elements.{All-contains, Contains-append_left, Contains-append_right}
 use Rattle.std.proofs.lemmas.List.Elements.{Contains-append_cases, filter-append}
 use Rattle.std.specs.List.{All, Contains, filter}
-use Rattle.clip_segment.specs.Segment.{IsRising, all_entries}
+use Rattle.clip_indexed.specs.Segment.{IsRising, all_entries}
 use Rattle.clip_model.specs.History.{Registered, replay, listed, is_live}
 use Rattle.clip_model.proofs.Live.{given_live}
 use Rattle.clip_model.proofs.Numbering.{replay_numbered}

@@ -5,7 +5,7 @@ use Rattle.std.proofs.lemmas.List.Elements.{All-contains}
 use Rattle.std.specs.List.{Contains}
 use Rattle.clip_merge.specs.Live.{names}
 use Rattle.clip_merge.specs.Plan.{neighbours}
-use Rattle.clip_segment.specs.Segment.{all_entries}
+use Rattle.clip_indexed.specs.Segment.{all_entries}
 use Rattle.clip_model.specs.declared.limits.TheConstants.{RUN_LENGTH}
 use Rattle.clip_model.specs.History.{History, listed, is_live}
 use Rattle.clip_model.proofs.Dead.{live_before}

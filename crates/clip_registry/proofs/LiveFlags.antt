@@ -11,7 +11,7 @@ use Rattle.std.specs.Arc.{arc_value}
 use Rattle.std.specs.declared.sync.Arc.{Arc}
 use Rattle.std.specs.declared.alloc.Global.{Global}
 use Rattle.std.specs.List.{All, Contains}
-use Rattle.clip_segment.specs.Segment.{IsRising, all_entries, seqs_of}
+use Rattle.clip_indexed.specs.Segment.{IsRising, all_entries, seqs_of}
 use Rattle.clip_model.specs.History.{Registered, is_live, replay}
 use Rattle.clip_model.proofs.Live.{live_given}
 use Rattle.clip_model.proofs.Numbering.{replay_numbered}

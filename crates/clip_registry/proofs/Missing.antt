@@ -6,7 +6,7 @@ use Rattle.std.proofs.lemmas.List.Elements.{All-contains}
 use Rattle.std.proofs.lemmas.List.Folds.{list_all-append}
 use Rattle.std.proofs.lemmas.List.Sums.{AllPass-from_list_all}
 use Rattle.std.specs.List.{Contains, list_all}
-use Rattle.clip_segment.specs.Segment.{all_entries}
+use Rattle.clip_indexed.specs.Segment.{all_entries}
 use Rattle.clip_model.specs.History.{Registered, Registry, replay, is_live_in}
 use Rattle.clip_registry.specs.Merging.{Merge, Misses, StandsAt}
 use Rattle.clip_registry.specs.RegistryState.{RegistryState, IsWhole}

@@ -5,8 +5,8 @@ use Rattle.std.proofs.lemmas.List.{length-append}
 use Rattle.std.proofs.lemmas.List.Elements.{filter-append}
 use Rattle.std.proofs.lemmas.List.Sums.{length-filter, sum_by-cons}
 use Rattle.std.specs.List.{Contains, count_by, filter}
-use Rattle.clip_segment.specs.Segment.{IsRising, all_entries}
-use Rattle.clip_segment.specs.Selecting.{count_set, flagged, kept_of}
+use Rattle.clip_indexed.specs.Segment.{IsRising, all_entries}
+use Rattle.clip_indexed.specs.Selecting.{count_set, flagged, kept_of}
 use Rattle.clip_model.specs.History.{Registered}
 use Rattle.clip_registry.specs.Steps.LiveFlags.{flags_by, flags_of}
 use Rattle.clip_registry.proofs.Kept.{all_of_some}

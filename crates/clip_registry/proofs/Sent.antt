@@ -1,4 +1,5 @@
--- Threads may hand over and share registrars and views.
+-- Threads may hand over and share registrars and views where they may do so with the indexes of segments.
+use denote.RattleType.{RattleType}
 use denote.Param.Send.{IsSend, IsSync, view_send, view_sync, sendable}
 use denote.Param.SendFields.{declared_send, declared_sync}
 use Rattle.std.proofs.alloc.Global.TheSendSync as global_sent
@@ -10,7 +11,9 @@ use Rattle.std.proofs.vec.Vec.TheSendSync as vec_sent
 use Rattle.clip_pieces.proofs.list.SharedList.TheSendSync as list_sent
 use Rattle.clip_pieces.proofs.shared.Shared.TheSendSync as shared_sent
 use Rattle.clip_pieces.proofs.shared_flags.SharedFlags.TheSendSync as flags_sent
-use Rattle.clip_segment.proofs.Sent.{segment_send, segment_sync}
+use Rattle.clip_indexed.proofs.Sent.{segment_send, segment_sync}
+use Rattle.clip_indexed.specs.declared.index.Index.{Ghosts}
+use Rattle.clip_indexed.specs.contracts.segment.Segment as segment
 use Rattle.clip_standing.proofs.Sent.{entry_send, entry_sync, history_entry_send, history_entry_sync}
 use Rattle.clip_registry.proofs.trail.Trail.TheSendSync as trail_sent
 use Rattle.clip_registry.specs.contracts.by_id.piece.Piece as piece
@@ -94,38 +97,45 @@ log_sync = view_sync log_inside.the_row _ _ _ _
       ),
     ))
 
-state_send : IsSend state.the_row
-state_send = view_send state_inside.the_row _ _ _ _
-    (declared_send state_inside.the_type (
-      search (parts, segment_send, segment_sync),
-      (log_send, (roster_send, (search parts, (search (lists, flags_sent.the_send, flags_sent.the_sync), tt)))),
-    ))
+module _ (I : RattleType) (g : Ghosts I.Denot) (sent : IsSend I) (shared : IsSync I) where
+  one_send : IsSend (segment.the_row I g)
+  one_send = segment_send I g sent
 
-state_sync : IsSync state.the_row
-state_sync = view_sync state_inside.the_row _ _ _ _
-    (declared_sync state_inside.the_type (
-      search (parts, segment_send, segment_sync),
-      (log_sync, (roster_sync, (search parts, (search (lists, flags_sent.the_send, flags_sent.the_sync), tt)))),
-    ))
+  one_sync : IsSync (segment.the_row I g)
+  one_sync = segment_sync I g shared
 
-pub registrar_send : IsSend registrar.the_row
-registrar_send = view_send registrar_inside.the_row _ _ _ _
-    (declared_send registrar_inside.the_type (
-      search global,
-      (search global, (search (parts, state_send, state_sync), tt)),
-    ))
+  state_send : IsSend (state.the_row I g)
+  state_send = view_send (state_inside.the_row I g) _ _ _ _
+      (declared_send (state_inside.the_type I g) (
+        search (parts, one_send, one_sync),
+        (log_send, (roster_send, (search parts, (search (lists, flags_sent.the_send, flags_sent.the_sync), tt)))),
+      ))
 
-pub registrar_sync : IsSync registrar.the_row
-registrar_sync = view_sync registrar_inside.the_row _ _ _ _
-    (declared_sync registrar_inside.the_type (
-      search global,
-      (search global, (search (parts, state_send, state_sync), tt)),
-    ))
+  state_sync : IsSync (state.the_row I g)
+  state_sync = view_sync (state_inside.the_row I g) _ _ _ _
+      (declared_sync (state_inside.the_type I g) (
+        search (parts, one_send, one_sync),
+        (log_sync, (roster_sync, (search parts, (search (lists, flags_sent.the_send, flags_sent.the_sync), tt)))),
+      ))
 
-pub view_is_send : IsSend view.the_row
-view_is_send = view_send view_inside.the_row _ _ _ _
-    (declared_send view_inside.the_type (search global, (search (parts, state_send, state_sync), tt)))
+  pub registrar_send : IsSend (registrar.the_row I g)
+  registrar_send = view_send (registrar_inside.the_row I g) _ _ _ _
+      (declared_send (registrar_inside.the_type I g) (
+        search global,
+        (search global, (search (parts, state_send, state_sync), tt)),
+      ))
 
-pub view_is_sync : IsSync view.the_row
-view_is_sync = view_sync view_inside.the_row _ _ _ _
-    (declared_sync view_inside.the_type (search global, (search (parts, state_send, state_sync), tt)))
+  pub registrar_sync : IsSync (registrar.the_row I g)
+  registrar_sync = view_sync (registrar_inside.the_row I g) _ _ _ _
+      (declared_sync (registrar_inside.the_type I g) (
+        search global,
+        (search global, (search (parts, state_send, state_sync), tt)),
+      ))
+
+  pub view_is_send : IsSend (view.the_row I g)
+  view_is_send = view_send (view_inside.the_row I g) _ _ _ _
+      (declared_send (view_inside.the_type I g) (search global, (search (parts, state_send, state_sync), tt)))
+
+  pub view_is_sync : IsSync (view.the_row I g)
+  view_is_sync = view_sync (view_inside.the_row I g) _ _ _ _
+      (declared_sync (view_inside.the_type I g) (search global, (search (parts, state_send, state_sync), tt)))

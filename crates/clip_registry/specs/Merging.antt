@@ -3,7 +3,7 @@ use Rattle.std.specs.Prelude.{◌≡◌, ◌⊎◌, ℕ, ◌+◌, Bool, true, fa
 use Rattle.std.specs.Prelude.{Contains, IsTrue, refl}
 use Rattle.std.specs.Coded.{Coded, code_by, coded×, coded_ℕ, coded_list}
 use Rattle.clip_model.specs.History.{History, Registered, registered_code, is_live}
-use Rattle.clip_segment.specs.Segment.{all_entries}
+use Rattle.clip_indexed.specs.Segment.{all_entries}
 use Rattle.clip_merge.specs.Live.{named}
 use Rattle.clip_merge.specs.Plan.{IsOldestRun, IsTurn, neighbours, run_at}
 use Rattle.clip_registry.specs.RegistryState.{RegistryState, IsWhole}

@@ -6,7 +6,7 @@ use Rattle.std.specs.Coded.{Coded, code_by, coded×, coded_list, coded_bool}
 use Rattle.clip_model.specs.Standing.{Standing}
 use Rattle.clip_model.specs.History.{History, Command, Register, Delete, Clear, Registered, Registry, replay, listed}
 use Rattle.clip_model.specs.History.{is_live, is_live_in, after_command, with_command, history_code, registered_code}
-use Rattle.clip_segment.specs.Segment.{IsRising, all_entries}
+use Rattle.clip_indexed.specs.Segment.{IsRising, all_entries}
 
 -- segments, each as its list of entries, the history of accepted commands, and whether it is kept to be read
 pub record RegistryState : Type 0 where

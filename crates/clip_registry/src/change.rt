@@ -6,8 +6,8 @@ ghost use Rattle.std.specs.List.{All};
 ghost use Rattle.clip_model.specs.History as model;
 ghost use Rattle.clip_model.specs.History.{fits, register_all, after_command};
 ghost use Rattle.clip_standing.specs.Command.{command_of};
-ghost use Rattle.clip_segment.specs.Segment.{IsRising, all_entries};
-ghost use Rattle.clip_segment.specs.declared.segment.TheConstants.{MOST_POSITIONS};
+ghost use Rattle.clip_indexed.specs.Segment.{IsRising, all_entries};
+ghost use Rattle.clip_indexed.specs.declared.segment.TheConstants.{MOST_POSITIONS};
 ghost use Rattle.clip_registry.specs.Steps.Change.{content, IsChanged};
 ghost use Rattle.clip_registry.specs.Steps.LiveFlags.{flags_in, without_all};
 ghost use Rattle.clip_registry.specs.RegistryState.{numbered};
@@ -16,9 +16,9 @@ ghost use Rattle.clip_standing.specs.declared.command.Refused.TheVariants as ref
 use crate::live_flags::{all_set, clear, clear_each};
 use crate::purging::live_segment;
 use crate::roster::Roster;
+use clip_indexed::{Index, Segment};
 use clip_model::{MOST_LISTED, MOST_LIVE};
 use clip_pieces::{Shared, SharedFlags};
-use clip_segment::Segment;
 use clip_standing::{Applied, Command, Entry, Refused, Standing};
 use clip_words::NoMemory;
 use std::alloc::Global;
@@ -45,11 +45,11 @@ fn numbered_entries(
 
 /// The segment of those of the entries whose seqs are not among these, and a flag for each of them, all set. `NoMemory`
 /// where an allocation failed.
-fn standing_segment(
+fn standing_segment<I: Index>(
     alloc: Global,
     entries: Vec<Arc<Entry>>,
     gone: &[u64],
-) -> Result<(Arc<Segment>, Shared<SharedFlags>), NoMemory>
+) -> Result<(Arc<Segment<I>>, Shared<SharedFlags>), NoMemory>
     requires short { length entries.items ≤ MOST_POSITIONS }
     requires rising { IsRising (map arc_value entries.items) }
     ensures entries { IfOk result (λ kept. kept.0.value
@@ -64,8 +64,8 @@ fn standing_segment(
 
 /// What a command leaves of the segments, their live flags and the roster, and the answer to it.
 #[derive(Drop)]
-pub struct Changed {
-    pub segments: Vec<Arc<Segment>>,
+pub struct Changed<I: Index> {
+    pub segments: Vec<Arc<Segment<I>>>,
     pub roster: Roster,
     pub applied: Applied,
     pub live: Vec<Shared<SharedFlags>>,
@@ -73,13 +73,13 @@ pub struct Changed {
 
 /// Registers queries: they take the places of those with their ids, and a segment with those that stand goes to the
 /// end, with its live flags.
-fn register(
+fn register<I: Index>(
     alloc: Global,
-    segments: Vec<Arc<Segment>>,
+    segments: Vec<Arc<Segment<I>>>,
     live: Vec<Shared<SharedFlags>>,
     roster: Roster,
     standings: &[Arc<Standing>],
-) -> Result<Changed, Refused>
+) -> Result<Changed<I>, Refused>
     requires listed { roster.listed + MOST_LISTED < 2 ^ 64 }
     requires fits { length standings.now ≤ MOST_LISTED }
     requires small { finite.len roster.registry ≤ MOST_LIVE }
@@ -121,13 +121,13 @@ fn register(
 
 /// Does a command to the segments, their live flags and the roster: `Full` where more than `MOST_LIVE` queries would
 /// then be registered, and `NoMemory` where an allocation failed.
-pub fn change(
+pub fn change<I: Index>(
     alloc: Global,
-    segments: Vec<Arc<Segment>>,
+    segments: Vec<Arc<Segment<I>>>,
     live: Vec<Shared<SharedFlags>>,
     roster: Roster,
     command: &Command,
-) -> Result<Changed, Refused>
+) -> Result<Changed<I>, Refused>
     requires listed { roster.listed + MOST_LISTED < 2 ^ 64 }
     requires fits { IsTrue (fits (command_of command.now)) }
     requires small { finite.len roster.registry ≤ MOST_LIVE }

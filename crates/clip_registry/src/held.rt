@@ -8,6 +8,7 @@ ghost use Rattle.clip_standing.specs.Command.{shared_entry};
 
 use crate::history::History;
 use crate::state::State;
+use clip_indexed::Index;
 use clip_model::MOST_ENTRIES;
 use clip_standing::HistoryEntry;
 use clip_words::NoMemory;
@@ -15,12 +16,16 @@ use std::alloc::Global;
 use std::sync::Arc;
 
 /// A state of one's own with the same content, or `NoMemory` where an allocation failed.
-pub fn own_copy(alloc: Global, keeps: bool, held: &Option<Arc<State>>) -> Result<State, NoMemory>
+pub fn own_copy<I: Index>(
+    alloc: Global,
+    keeps: bool,
+    held: &Option<Arc<State<I>>>,
+) -> Result<State<I>, NoMemory>
     ensures { IfOk result (λ state. state ≡ state_or_beginning keeps held.now) }
 {
     match held {
         Some(shared) => {
-            let state: &State = shared;
+            let state: &State<I> = shared;
             Ok(state.clone()?)
         }
         None => State::new(alloc, keeps),
@@ -28,7 +33,7 @@ pub fn own_copy(alloc: Global, keeps: bool, held: &Option<Arc<State>>) -> Result
 }
 
 /// Whether the history is at its end: no command is accepted any more.
-pub fn has_ended(held: &Option<Arc<State>>) -> bool
+pub fn has_ended<I: Index>(held: &Option<Arc<State<I>>>) -> bool
     ensures { (keeps : Bool) → IsTrue result ↔ MOST_ENTRIES ≤ length (state_or_beginning keeps held.now).history }
 {
     match held {
@@ -38,7 +43,7 @@ pub fn has_ended(held: &Option<Arc<State>>) -> bool
 }
 
 /// Another holder of a state, or none where there is none; `NoMemory` where the count of its holders is at its end.
-pub fn copy_of(held: &Option<Arc<State>>) -> Result<Option<Arc<State>>, NoMemory>
+pub fn copy_of<I: Index>(held: &Option<Arc<State<I>>>) -> Result<Option<Arc<State<I>>>, NoMemory>
     ensures { (keeps : Bool) → IfOk result (λ copy. state_or_beginning keeps copy ≡ state_or_beginning keeps held.now) }
 {
     match held {
@@ -48,7 +53,7 @@ pub fn copy_of(held: &Option<Arc<State>>) -> Result<Option<Arc<State>>, NoMemory
 }
 
 /// The commands that were accepted, where they are kept.
-pub fn history_of(held: &Option<Arc<State>>) -> History<'_>
+pub fn history_of<I: Index>(held: &Option<Arc<State<I>>>) -> History<'_>
     ensures history { (keeps : Bool) → result
         ≡ kept_history (state_or_beginning keeps held.now).keeps (state_or_beginning keeps held.now).history }
     ensures whole { (keeps : Bool) → IsWhole (state_or_beginning keeps held.now) }
@@ -61,7 +66,7 @@ pub fn history_of(held: &Option<Arc<State>>) -> History<'_>
 }
 
 /// The entry of the last command that was accepted, or `None` where there is none.
-pub fn last_of(held: &Option<Arc<State>>) -> Option<&Arc<HistoryEntry>>
+pub fn last_of<I: Index>(held: &Option<Arc<State<I>>>) -> Option<&Arc<HistoryEntry>>
     ensures last { (keeps : Bool) → option_map shared_entry (option_copied result)
         ≡ slice_get (state_or_beginning keeps held.now).history
         (length (state_or_beginning keeps held.now).history - 1) }
@@ -74,7 +79,7 @@ pub fn last_of(held: &Option<Arc<State>>) -> Option<&Arc<HistoryEntry>>
 }
 
 /// How many commands of the caller were accepted: 0 for what is no caller.
-pub fn number_of(held: &Option<Arc<State>>, caller: u32) -> u32
+pub fn number_of<I: Index>(held: &Option<Arc<State<I>>>, caller: u32) -> u32
     ensures count { (keeps : Bool) → result ≡ length (own (state_or_beginning keeps held.now).history caller) }
     ensures legal { (keeps : Bool) → IsLegal (state_or_beginning keeps held.now).history }
 {

@@ -4,12 +4,12 @@ ghost use Rattle.std.specs.Prelude.{IfOk, OnOk};
 ghost use Rattle.std.specs.Arc.{arc_value};
 ghost use Rattle.std.specs.List.{Contains, list_all};
 ghost use Rattle.clip_model.specs.History.{Registered};
-ghost use Rattle.clip_segment.specs.Segment.{all_entries, seqs_of};
+ghost use Rattle.clip_indexed.specs.Segment.{all_entries, seqs_of};
 ghost use Rattle.clip_registry.specs.Merging.{shelf};
 ghost use Rattle.clip_registry.specs.Steps.LiveFlags.{died, flags_by, flags_of, stays, without, without_all};
 
+use clip_indexed::{Index, Segment};
 use clip_pieces::{Shared, SharedFlags};
-use clip_segment::Segment;
 use clip_standing::Entry;
 use clip_words::NoMemory;
 use std::alloc::Global;
@@ -17,7 +17,11 @@ use std::sync::Arc;
 
 /// Clears the flag of a seq among those of a segment, if an entry of it has the seq. `NoMemory` where an allocation
 /// failed.
-fn clear_in(flags: &mut Shared<SharedFlags>, segment: &Segment, seq: u64) -> Result<(), NoMemory>
+fn clear_in<I: Index>(
+    flags: &mut Shared<SharedFlags>,
+    segment: &Segment<I>,
+    seq: u64,
+) -> Result<(), NoMemory>
     requires { length flags.old ≡ length segment.now }
     ensures cleared { (is : ℕ → Bool) → flags.old ≡ flags_of is segment.now
         → OnOk result (flags.new ≡ flags_of (without seq is) segment.now) }
@@ -31,9 +35,9 @@ fn clear_in(flags: &mut Shared<SharedFlags>, segment: &Segment, seq: u64) -> Res
 
 /// Clears the flags of these seqs among those of a segment, where its entries have them. `NoMemory` where an allocation
 /// failed. It costs a step for each seq, and a binary search for each that is not above those of the segment.
-pub fn clear(
+pub fn clear<I: Index>(
     flags: &mut Shared<SharedFlags>,
-    segment: &Segment,
+    segment: &Segment<I>,
     seqs: &[u64],
 ) -> Result<(), NoMemory>
     requires { length flags.old ≡ length segment.now }
@@ -48,9 +52,9 @@ pub fn clear(
 
 /// Clears the flags of these seqs, where entries of the segments have them. `NoMemory` where an allocation failed. It
 /// costs a step for each segment, and in it what `clear` does.
-pub fn clear_each(
+pub fn clear_each<I: Index>(
     live: &mut Vec<Shared<SharedFlags>>,
-    segments: &[Arc<Segment>],
+    segments: &[Arc<Segment<I>>],
     seqs: &[u64],
 ) -> Result<(), NoMemory>
     requires { map length live.old.items ≡ map length (map arc_value segments.now) }
@@ -65,10 +69,10 @@ pub fn clear_each(
 
 /// Puts a segment behind others, and its live flags behind theirs, but for one that has no entries. `NoMemory` where an
 /// allocation failed.
-pub fn shelve(
-    segments: &mut Vec<Arc<Segment>>,
+pub fn shelve<I: Index>(
+    segments: &mut Vec<Arc<Segment<I>>>,
     live: &mut Vec<Shared<SharedFlags>>,
-    segment: Arc<Segment>,
+    segment: Arc<Segment<I>>,
     flags: Shared<SharedFlags>,
 ) -> Result<(), NoMemory>
     ensures segments { OnOk result (map arc_value segments.new.items
@@ -87,7 +91,11 @@ pub fn shelve(
 
 /// Whether an entry of the segments has the seq, and its flag is set. It costs a step for each segment up to the one
 /// that has the seq, and a binary search in each of these that has a seq that is not below it.
-pub fn has_live(live: &[Shared<SharedFlags>], segments: &[Arc<Segment>], seq: u64) -> bool
+pub fn has_live<I: Index>(
+    live: &[Shared<SharedFlags>],
+    segments: &[Arc<Segment<I>>],
+    seq: u64,
+) -> bool
     requires { length live.now ≡ length segments.now }
     ensures { (is : ℕ → Bool) → live.now ≡ flags_by is (map arc_value segments.now)
         → (is seq ≡ true → Contains (seqs_of (all_entries (map arc_value segments.now))) seq)
@@ -102,8 +110,8 @@ pub fn has_live(live: &[Shared<SharedFlags>], segments: &[Arc<Segment>], seq: u6
 }
 
 /// Adds those entries of a segment whose flags are set. `NoMemory` where an allocation failed.
-pub fn add_live<'a>(
-    segment: &'a Segment,
+pub fn add_live<'a, I: Index>(
+    segment: &'a Segment<I>,
     live: &SharedFlags,
     found: &mut Vec<&'a Entry>,
 ) -> Result<(), NoMemory>
@@ -190,8 +198,8 @@ pub fn are_all_set(flags: &SharedFlags) -> bool
 
 /// Adds the seqs of those entries of a source that were live when a merge was begun and died since. `NoMemory` where an
 /// allocation failed.
-fn add_died(
-    source: &Segment,
+fn add_died<I: Index>(
+    source: &Segment<I>,
     now: &SharedFlags,
     begun: &SharedFlags,
     seqs: &mut Vec<u64>,
@@ -211,9 +219,9 @@ fn add_died(
 
 /// The seqs of those entries of the sources that were live when a merge was begun and died since. `NoMemory` where an
 /// allocation failed. It costs a step for each 64 entries of the sources, and one for each that died.
-pub fn died_since(
+pub fn died_since<I: Index>(
     alloc: Global,
-    sources: &[Arc<Segment>],
+    sources: &[Arc<Segment<I>>],
     now: &[Shared<SharedFlags>],
     begun: &[Shared<SharedFlags>],
 ) -> Result<Vec<u64>, NoMemory>

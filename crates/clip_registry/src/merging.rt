@@ -10,21 +10,21 @@ use crate::live_flags::{clear, died_since, misses_none, shelve};
 use crate::purging::select_live;
 use crate::same::place_of;
 use crate::state::State;
+use clip_indexed::{Index, Segment};
 use clip_pieces::{Shared, SharedFlags};
-use clip_segment::Segment;
 use clip_words::NoMemory;
 use std::alloc::Global;
 use std::marker::Model;
 use std::sync::Arc;
 
 /// Neighbouring segments that are to be one, and beside each which of its entries were live when the job was begun.
-pub struct MergeJob {
+pub struct MergeJob<I: Index> {
     pub(crate) alloc: Global,
-    pub(crate) sources: Vec<Arc<Segment>>,
+    pub(crate) sources: Vec<Arc<Segment<I>>>,
     pub(crate) flags: Vec<Shared<SharedFlags>>,
 }
 
-impl Drop for MergeJob {
+impl<I: Index> Drop for MergeJob<I> {
     fn drop(self) {
         let MergeJob {
             alloc: _,
@@ -34,7 +34,7 @@ impl Drop for MergeJob {
     }
 }
 
-impl Model for MergeJob {
+impl<I: Index> Model for MergeJob<I> {
     ghost use Rattle.clip_registry.specs.Merging.{Job, job_code};
 
     ghost Value = { Job };
@@ -51,14 +51,14 @@ impl Model for MergeJob {
 /// What a job gives: its sources, which of their entries were live, and one segment of just these, with a flag for each
 /// of them, all set.
 #[derive(Drop)]
-pub struct Merged {
-    pub(crate) sources: Vec<Arc<Segment>>,
+pub struct Merged<I: Index> {
+    pub(crate) sources: Vec<Arc<Segment<I>>>,
     pub(crate) flags: Vec<Shared<SharedFlags>>,
-    pub(crate) segment: Arc<Segment>,
+    pub(crate) segment: Arc<Segment<I>>,
     pub(crate) live: Shared<SharedFlags>,
 }
 
-impl Model for Merged {
+impl<I: Index> Model for Merged<I> {
     ghost use Rattle.clip_registry.specs.Merging.{Merge, merge_code};
 
     ghost Value = { Merge };
@@ -92,15 +92,15 @@ pub enum MergeTurn {
     Stale,
 }
 
-impl MergeJob {
+impl<I: Index> MergeJob<I> {
     /// A job over the neighbours of a state from `first` on to before `past`, which it shares, and their live flags
     /// with them. `NoMemory` where an allocation failed. It costs a step for each of them.
     pub(crate) fn of(
         alloc: Global,
-        state: &State,
+        state: &State<I>,
         first: usize,
         past: usize,
-    ) -> Result<MergeJob, NoMemory>
+    ) -> Result<MergeJob<I>, NoMemory>
         requires some { first < past }
         requires there { past ≤ length state.now.segments }
         ensures { IfOk result (λ job. IsOver state.now job first past) }
@@ -114,9 +114,9 @@ impl MergeJob {
 
     /// One segment of the entries of its sources that were live when it was begun. It shares them.
     ///
-    /// `NoMemory` where an allocation failed. Cost: that of `Segment::select`, so a step for each entry of the sources,
-    /// and for each live one a step for each word and each leaf of its query.
-    pub fn run(&self) -> Result<Merged, NoMemory>
+    /// `NoMemory` where an allocation failed, and where `Index::select` answers it. Cost: that of `Segment::select`, so a
+    /// step for each entry of the sources, and that of `Index::select`.
+    pub fn run(&self) -> Result<Merged<I>, NoMemory>
         ensures { IfOk result (λ merged. merged ≡ merge_of self.now) }
     {
         let (segment, live) = select_live(self.alloc, &self.sources, &self.flags)?;
@@ -129,9 +129,9 @@ impl MergeJob {
     }
 }
 
-impl Merged {
+impl<I: Index> Merged<I> {
     /// The place at which it is to be installed, or `None` where it is stale.
-    pub(crate) fn place_in(&self, state: &State) -> Option<usize>
+    pub(crate) fn place_in(&self, state: &State<I>) -> Option<usize>
         ensures there { IfSome result (λ first. first + length self.now.sources ≤ length state.now.segments) }
         ensures stands { IfSome result (λ first. StandsAt state.now.segments self.now.sources first) }
         ensures complete { OnSome result (Misses state.now self.now → ⊥) }
@@ -154,9 +154,9 @@ impl Merged {
     pub(crate) fn put_in(
         self,
         alloc: Global,
-        state: &State,
+        state: &State<I>,
         first: usize,
-    ) -> Result<(Vec<Arc<Segment>>, Vec<Shared<SharedFlags>>), NoMemory>
+    ) -> Result<(Vec<Arc<Segment<I>>>, Vec<Shared<SharedFlags>>), NoMemory>
         requires there { first + length self.sources ≤ length state.now.segments }
         requires stands { StandsAt state.now.segments self.sources first }
         ensures segments { IfOk result (λ put. map arc_value put.0.items

@@ -2,17 +2,17 @@
 ghost use Rattle.std.specs.Prelude.{◌≡◌, ◌≤◌, true, length, map, replicate, IfOk};
 ghost use Rattle.std.specs.Arc.{arc_value};
 ghost use Rattle.clip_model.specs.History.{replay};
-ghost use Rattle.clip_segment.specs.Segment.{IsRising};
-ghost use Rattle.clip_segment.specs.Selecting.{AreFlagsOf, count_set, flagged, kept_of};
-ghost use Rattle.clip_segment.specs.declared.segment.TheConstants.{MOST_POSITIONS};
+ghost use Rattle.clip_indexed.specs.Segment.{IsRising};
+ghost use Rattle.clip_indexed.specs.Selecting.{AreFlagsOf, count_set, flagged, kept_of};
+ghost use Rattle.clip_indexed.specs.declared.segment.TheConstants.{MOST_POSITIONS};
 ghost use Rattle.clip_registry.specs.Merging.{purged};
 ghost use Rattle.clip_registry.specs.Steps.LiveFlags.{flags_in};
 ghost use Rattle.clip_registry.specs.Steps.Merging.{AreKept};
 
 use crate::live_flags::{all_set, are_all_set, flags_listed, shelve};
 use crate::state::State;
+use clip_indexed::{Index, Segment};
 use clip_pieces::{Shared, SharedFlags};
-use clip_segment::Segment;
 use clip_words::NoMemory;
 use std::alloc::Global;
 use std::slice;
@@ -20,11 +20,11 @@ use std::sync::Arc;
 
 /// One segment of those entries of these segments whose flags are set, which it shares, and a flag for each of them,
 /// all set. `NoMemory` where an allocation failed. It costs what `Segment::select` does.
-pub fn select_live(
+pub fn select_live<I: Index>(
     alloc: Global,
-    segments: &[Arc<Segment>],
+    segments: &[Arc<Segment<I>>],
     live: &[Shared<SharedFlags>],
-) -> Result<(Arc<Segment>, Shared<SharedFlags>), NoMemory>
+) -> Result<(Arc<Segment<I>>, Shared<SharedFlags>), NoMemory>
     requires flags { AreFlagsOf (map arc_value segments.now) live.now }
     requires short { count_set live.now ≤ MOST_POSITIONS }
     requires rising { IsRising (kept_of (map arc_value segments.now) live.now) }
@@ -39,11 +39,11 @@ pub fn select_live(
 
 /// The segment with just those entries whose flags are set, and a flag for each of them, all set: what is given where
 /// all are set. `NoMemory` where an allocation failed.
-pub fn live_segment(
+pub fn live_segment<I: Index>(
     alloc: Global,
-    segment: &Arc<Segment>,
+    segment: &Arc<Segment<I>>,
     live: &Shared<SharedFlags>,
-) -> Result<(Arc<Segment>, Shared<SharedFlags>), NoMemory>
+) -> Result<(Arc<Segment<I>>, Shared<SharedFlags>), NoMemory>
     requires { length live.now ≡ length segment.now.value }
     ensures entries { IfOk result (λ kept. kept.0.value ≡ flagged live.now segment.now.value) }
     ensures set { IfOk result (λ kept. kept.1 ≡ replicate (length kept.0.value) true) }
@@ -58,10 +58,10 @@ pub fn live_segment(
 
 /// The segments of a state with just their live entries, and none that is empty, and their live flags. `NoMemory` where
 /// an allocation failed.
-pub fn live_segments(
+pub fn live_segments<I: Index>(
     alloc: Global,
-    state: &State,
-) -> Result<(Vec<Arc<Segment>>, Vec<Shared<SharedFlags>>), NoMemory>
+    state: &State<I>,
+) -> Result<(Vec<Arc<Segment<I>>>, Vec<Shared<SharedFlags>>), NoMemory>
     ensures segments { IfOk result (λ kept. map arc_value kept.0.items ≡ (purged state.now).segments) }
     ensures kept { IfOk result (λ kept. AreKept state.now (map arc_value kept.0.items)) }
     ensures flags { IfOk result (λ kept.

@@ -15,6 +15,7 @@ use crate::merging::{Installed, MergeJob, Merged};
 use crate::purging::live_segments;
 use crate::state::State;
 use crate::view::View;
+use clip_indexed::Index;
 use clip_merge::{plan, plan_turn};
 use clip_model::{MOST_CALLERS, MOST_ENTRIES};
 use clip_standing::{Applied, Command, HistoryEntry, Refused};
@@ -23,16 +24,17 @@ use std::alloc::Global;
 use std::marker::Model;
 use std::sync::Arc;
 
-/// The registry that commands change, seen as its list of segments and its history. Until the first command it has no
-/// state. Views and copies share its state, and a command puts another in its place.
+/// The registry that commands change, seen as its list of segments and its history; each segment keeps an index over
+/// its entries. Until the first command it has no state. Views and copies share its state, and a command puts another
+/// in its place.
 #[derive(Drop)]
-pub struct Registrar {
+pub struct Registrar<I: Index> {
     alloc: Global,
     keeps: bool,
-    state: Option<Arc<State>>,
+    state: Option<Arc<State<I>>>,
 }
 
-impl Model for Registrar {
+impl<I: Index> Model for Registrar<I> {
     ghost use Rattle.clip_registry.specs.RegistryState.{RegistryState, state_code};
     ghost use Rattle.clip_registry.specs.Steps.State.{state_or_beginning};
 
@@ -43,10 +45,10 @@ impl Model for Registrar {
     ghost view = { λ r. state_or_beginning r.keeps r.state };
 }
 
-impl Registrar {
+impl<I: Index> Registrar<I> {
     /// A registrar with no segment and an empty history, which it keeps: `history` gives each command that it will have
     /// accepted, and its memory grows with them. It takes no memory. Constant time.
-    pub fn new(alloc: Global) -> Registrar
+    pub fn new(alloc: Global) -> Registrar<I>
         ensures { result ≡ beginning true }
     {
         Registrar {
@@ -58,7 +60,7 @@ impl Registrar {
 
     /// A registrar with no segment and an empty history, which it does not keep: its memory follows what is registered,
     /// and all calls but `history` answer as those of one that keeps it. It takes no memory. Constant time.
-    pub fn without_history(alloc: Global) -> Registrar
+    pub fn without_history(alloc: Global) -> Registrar<I>
         ensures { result ≡ beginning false }
     {
         Registrar {
@@ -73,7 +75,7 @@ impl Registrar {
     /// than `MOST_LIVE` queries would then be registered, and `NoMemory` where an allocation failed.
     ///
     /// Cost: that of `apply`.
-    pub fn after(&self, caller: u32, command: &Command) -> Result<(Registrar, Applied), Refused>
+    pub fn after(&self, caller: u32, command: &Command) -> Result<(Registrar<I>, Applied), Refused>
         requires fits { IsTrue (fits (command_of command.now)) }
         requires caller_from { 0 < caller }
         requires caller_to { caller ≤ MOST_CALLERS }
@@ -100,9 +102,9 @@ impl Registrar {
     /// `MOST_ENTRIES` commands were accepted, judged before any memory is taken, or where more than `MOST_LIVE` queries
     /// would then be registered, and `NoMemory` where an allocation failed.
     ///
-    /// A register costs the extraction of the keys of each listed query, and for each a search among the registered
-    /// ids, and where it lists an id twice also that of `Segment::select` over what it lists; a delete costs such a
-    /// search for each listed id; a clear costs the dropping of what no view holds.
+    /// A register costs what `Segment::build` does over the listed queries, so that of `Index::of`, and for each a
+    /// search among the registered ids, and where it lists an id twice also that of `Segment::select` over what it
+    /// lists; a delete costs such a search for each listed id; a clear costs the dropping of what no view holds.
     ///
     /// A command is done to a copy of the registry, which shares all that the command leaves as it is. The copy costs
     /// a step for each segment, one for each 16,384 history entries that are kept, and one for each piece of the map by
@@ -139,7 +141,7 @@ impl Registrar {
     /// their entries are live; `None` where there are no such four. `NoMemory` where an allocation failed.
     ///
     /// Cost: that of `clip_merge::plan`, so a step for each segment and each of its levels. No entry is looked at.
-    pub fn begin(&self) -> Result<Option<MergeJob>, NoMemory>
+    pub fn begin(&self) -> Result<Option<MergeJob<I>>, NoMemory>
         ensures begun { IfOk result (λ job. IfSome job (IsBegun self.now)) }
         ensures nothing { result ≡ Ok None → (first : ℕ) → IsRun self.now.segments first → ⊥ }
     {
@@ -157,7 +159,7 @@ impl Registrar {
     /// at most for each level up to that of all their entries together. `NoMemory` where an allocation failed.
     ///
     /// Cost: that of `clip_merge::plan_turn`, so a step for each segment and each of its levels. No entry is looked at.
-    pub fn begin_turn(&self) -> Result<Option<MergeJob>, NoMemory>
+    pub fn begin_turn(&self) -> Result<Option<MergeJob<I>>, NoMemory>
         ensures begun { IfOk result (λ job. IfSome job (IsTurnBegun self.now)) }
         ensures nothing { result ≡ Ok None → (first : ℕ) → IsRun self.now.segments first → ⊥ }
         ensures few { result ≡ Ok None → AreFew self.now.segments }
@@ -182,7 +184,7 @@ impl Registrar {
     /// Cost: a step for each segment, each of which is shared by a new list; for each entry of the sources a comparison
     /// of its seq and texts; a step for each 64 of them; for each that died since the merge was begun a binary
     /// search; and a copy like that of a command, of which nothing else is changed. A stale merge copies nothing.
-    pub fn install(&mut self, merged: Merged) -> Result<Installed, NoMemory>
+    pub fn install(&mut self, merged: Merged<I>) -> Result<Installed, NoMemory>
         ensures done { result ≡ Ok Installed.Done → IsInstalled self.old self.new merged }
         ensures stale { result ≡ Ok Installed.Stale → IsStale self.old merged }
         ensures unchanged { (result ≡ Ok Installed.Done → ⊥) → self.new ≡ self.old }
@@ -217,7 +219,7 @@ impl Registrar {
     }
 
     /// The registry as it stands, or `NoMemory` where the count of its holders is at its end. Constant time.
-    pub fn view(&self) -> Result<View, NoMemory>
+    pub fn view(&self) -> Result<View<I>, NoMemory>
         ensures { IfOk result (λ view. view ≡ self.now) }
     {
         Ok(View {
@@ -228,7 +230,7 @@ impl Registrar {
 
     /// A registrar with the same registry, which later commands to either don't change in the other. `NoMemory` where
     /// the count of the registry's holders is at its end. Constant time.
-    pub fn copy(&self) -> Result<Registrar, NoMemory>
+    pub fn copy(&self) -> Result<Registrar<I>, NoMemory>
         ensures { IfOk result (λ copy. copy ≡ self.now) }
     {
         Ok(Registrar {

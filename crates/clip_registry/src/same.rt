@@ -3,7 +3,7 @@ ghost use Rattle.std.specs.Prelude.{◌≡◌, ◌↔◌, ℕ, ◌<◌, ◌≤�
 ghost use Rattle.std.specs.Arc.{arc_value};
 ghost use Rattle.clip_registry.specs.Merging.{StandsAt};
 
-use clip_segment::Segment;
+use clip_indexed::{Index, Segment};
 use clip_standing::{Entry, Standing};
 use std::sync::Arc;
 
@@ -40,14 +40,14 @@ fn are_same_entries(a: &[Arc<Entry>], b: &[Arc<Entry>]) -> bool
 
 /// Whether the segments are as long as each other, and have the same first and last seqs, as those with one list of
 /// entries do. Constant time.
-fn is_alike(a: &Segment, b: &Segment) -> bool
+fn is_alike<I: Index>(a: &Segment<I>, b: &Segment<I>) -> bool
     ensures { a.now ≡ b.now → result ≡ true }
 {
     a.len() == b.len() && a.seqs().first() == b.seqs().first() && a.seqs().last() == b.seqs().last()
 }
 
 /// Whether the segments are alike, one by one, as those with the same lists of entries are. It costs a step for each.
-fn are_alike(a: &[Arc<Segment>], b: &[Arc<Segment>]) -> bool
+fn are_alike<I: Index>(a: &[Arc<Segment<I>>], b: &[Arc<Segment<I>>]) -> bool
     ensures result { map arc_value a.now ≡ map arc_value b.now → result ≡ true }
     ensures as_many { result ≡ true → length a.now ≡ length b.now }
 {
@@ -63,7 +63,7 @@ fn are_alike(a: &[Arc<Segment>], b: &[Arc<Segment>]) -> bool
 }
 
 /// Whether the segments have the same lists of entries, one by one. Entries are compared where all segments are alike.
-fn are_same_segments(a: &[Arc<Segment>], b: &[Arc<Segment>]) -> bool
+fn are_same_segments<I: Index>(a: &[Arc<Segment<I>>], b: &[Arc<Segment<I>>]) -> bool
     ensures { IsTrue result ↔ (map arc_value a.now ≡ map arc_value b.now) }
 {
     if !are_alike(a, b) {
@@ -81,7 +81,10 @@ fn are_same_segments(a: &[Arc<Segment>], b: &[Arc<Segment>]) -> bool
 ///
 /// Cost: at each place a step for each source, and where lengths and first and last seqs of all of them are the same,
 /// for each entry a comparison of its seq and texts.
-pub fn place_of(segments: &[Arc<Segment>], sources: &[Arc<Segment>]) -> Option<usize>
+pub fn place_of<I: Index>(
+    segments: &[Arc<Segment<I>>],
+    sources: &[Arc<Segment<I>>],
+) -> Option<usize>
     requires { 0 < length sources.now }
     ensures stands { IfSome result (λ first. StandsAt (map arc_value segments.now) (map arc_value sources.now) first) }
     ensures nowhere { result ≡ None → (first : ℕ)

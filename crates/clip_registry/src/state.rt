@@ -21,9 +21,9 @@ use crate::change::change;
 use crate::live_flags::has_live;
 use crate::log::Log;
 use crate::roster::Roster;
+use clip_indexed::{Index, Segment};
 use clip_model::{MOST_CALLERS, MOST_ENTRIES};
 use clip_pieces::{Shared, SharedFlags};
-use clip_segment::Segment;
 use clip_standing::{Applied, Command, HistoryEntry, Refused};
 use clip_words::NoMemory;
 use std::alloc::{AllocError, Global};
@@ -32,15 +32,15 @@ use std::sync::Arc;
 
 /// The segments with the live flags of their entries, the history, the registered queries and how many commands each
 /// caller gave. A clone shares all but the lists of segments and of their flags and the counts of commands.
-pub struct State {
-    pub(crate) segments: Vec<Arc<Segment>>,
+pub struct State<I: Index> {
+    pub(crate) segments: Vec<Arc<Segment<I>>>,
     pub(crate) log: Log,
     pub(crate) roster: Roster,
     counts: Vec<u64>,
     pub(crate) live: Vec<Shared<SharedFlags>>,
 }
 
-impl Drop for State {
+impl<I: Index> Drop for State<I> {
     fn drop(self) {
         let State {
             segments: _,
@@ -52,7 +52,7 @@ impl Drop for State {
     }
 }
 
-impl Model for State {
+impl<I: Index> Model for State<I> {
     ghost use Rattle.clip_registry.specs.RegistryState.{RegistryState, state_code};
 
     ghost Value = { RegistryState };
@@ -66,10 +66,10 @@ impl Model for State {
     ghost invariant = { IsConsistentInside };
 }
 
-impl Clone for State {
+impl<I: Index> Clone for State<I> {
     ghost is_clone = { λ state copy. copy ≡ state };
 
-    fn clone(&self) -> Result<State, AllocError> {
+    fn clone(&self) -> Result<State<I>, AllocError> {
         Ok(State {
             segments: self.segments.clone()?,
             log: self.log.clone()?,
@@ -80,9 +80,9 @@ impl Clone for State {
     }
 }
 
-impl State {
+impl<I: Index> State<I> {
     /// No segment and no command yet, of a history that is kept or not, or `NoMemory` where an allocation failed.
-    pub fn new(alloc: Global, keeps: bool) -> Result<State, NoMemory>
+    pub fn new(alloc: Global, keeps: bool) -> Result<State<I>, NoMemory>
         ensures { IfOk result (λ state. state ≡ beginning keeps) }
     {
         Ok(State {
@@ -143,7 +143,7 @@ impl State {
         alloc: Global,
         caller: u32,
         command: &Command,
-    ) -> Result<(State, Applied), Refused>
+    ) -> Result<(State<I>, Applied), Refused>
         requires fits { IsTrue (fits (command_of command.now)) }
         requires caller_from { 0 < caller }
         requires caller_to { caller ≤ MOST_CALLERS }
@@ -178,9 +178,9 @@ impl State {
     pub fn with_segments(
         &self,
         alloc: Global,
-        segments: Vec<Arc<Segment>>,
+        segments: Vec<Arc<Segment<I>>>,
         live: Vec<Shared<SharedFlags>>,
-    ) -> Result<Arc<State>, NoMemory>
+    ) -> Result<Arc<State<I>>, NoMemory>
         requires kept { AreKept self.now (map arc_value segments.items) }
         requires flags { live.items ≡ flags_in (replay self.now.history) (map arc_value segments.items) }
         ensures { IfOk result (λ state. state.value

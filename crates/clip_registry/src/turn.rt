@@ -5,6 +5,7 @@ ghost use Rattle.clip_registry.specs.Steps.Turns.{HasMerged, TakesTurns};
 
 use crate::merging::{Installed, MergeTurn};
 use crate::registrar::Registrar;
+use clip_indexed::Index;
 use clip_words::NoMemory;
 
 /// Merges the oldest four neighbouring segments of one level, or, where there are no such four, all segments from the
@@ -14,7 +15,7 @@ use clip_words::NoMemory;
 ///
 /// Cost: that of `Registrar::begin_turn`, and where there are segments to merge that of `MergeJob::run` and of
 /// `Registrar::install`.
-pub fn merge_turn(registrar: &mut Registrar) -> Result<MergeTurn, NoMemory>
+pub fn merge_turn<I: Index>(registrar: &mut Registrar<I>) -> Result<MergeTurn, NoMemory>
     ensures nothing { result ≡ Ok MergeTurn.Nothing → (first : ℕ) → IsRun registrar.old.segments first → ⊥ }
     ensures few { result ≡ Ok MergeTurn.Nothing → AreFew registrar.old.segments }
     ensures installed { result ≡ Ok MergeTurn.Installed → HasMerged registrar.old registrar.new }
@@ -40,7 +41,7 @@ pub fn merge_turn(registrar: &mut Registrar) -> Result<MergeTurn, NoMemory>
 /// Cost: that of `merge_turn` for each turn, each of which leaves fewer segments. Where each call finds one segment
 /// more than the one before left, and no entry dies, an entry is rewritten at most once for each level that it rises,
 /// and once more.
-pub fn merge_all(registrar: &mut Registrar) -> Result<(), NoMemory>
+pub fn merge_all<I: Index>(registrar: &mut Registrar<I>) -> Result<(), NoMemory>
     ensures turns { TakesTurns registrar.old registrar.new }
     ensures few { OnOk result (AreFew registrar.new.segments) }
     ensures history { registrar.new.history ≡ registrar.old.history }

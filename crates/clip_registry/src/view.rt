@@ -3,15 +3,15 @@ ghost use Rattle.std.specs.Prelude.{◌≡◌, IfOk, filter, map, length, option
 ghost use Rattle.std.specs.Arc.{arc_value};
 ghost use Rattle.std.specs.FinMap as finite;
 ghost use Rattle.clip_model.specs.History.{IsLegal, own, replay, is_live};
-ghost use Rattle.clip_segment.specs.Segment.{IsRising, all_entries};
+ghost use Rattle.clip_indexed.specs.Segment.{IsRising, all_entries};
 ghost use Rattle.clip_registry.specs.RegistryState.{IsWhole, kept_history};
 
 use crate::held::{copy_of, history_of, number_of};
 use crate::history::History;
 use crate::live_flags::add_live;
 use crate::state::State;
+use clip_indexed::{Index, Segment};
 use clip_pieces::SharedFlags;
-use clip_segment::Segment;
 use clip_standing::Entry;
 use clip_words::NoMemory;
 use std::alloc::Global;
@@ -21,12 +21,12 @@ use std::sync::Arc;
 /// The registry as it was when the view was taken, seen as its list of segments and its history. Later commands don't
 /// change it.
 #[derive(Drop)]
-pub struct View {
+pub struct View<I: Index> {
     pub(crate) keeps: bool,
-    pub(crate) state: Option<Arc<State>>,
+    pub(crate) state: Option<Arc<State<I>>>,
 }
 
-impl Model for View {
+impl<I: Index> Model for View<I> {
     ghost use Rattle.clip_registry.specs.RegistryState.{RegistryState, state_code};
     ghost use Rattle.clip_registry.specs.Steps.State.{state_or_beginning};
 
@@ -37,10 +37,10 @@ impl Model for View {
     ghost view = { λ v. state_or_beginning v.keeps v.state };
 }
 
-impl View {
+impl<I: Index> View<I> {
     /// A copy of this view, which shares its state, or `NoMemory` where the count of the registry's holders is at its
     /// end. Constant time.
-    pub fn copy(&self) -> Result<View, NoMemory>
+    pub fn copy(&self) -> Result<View<I>, NoMemory>
         ensures { IfOk result (λ copy. copy ≡ self.now) }
     {
         Ok(View {
@@ -116,7 +116,7 @@ impl View {
     }
 
     /// The segments, oldest first. Of their entries, the live ones are exactly the registered queries. Constant time.
-    pub fn segments(&self) -> &[Arc<Segment>]
+    pub fn segments(&self) -> &[Arc<Segment<I>>]
         ensures segments { map arc_value result.now ≡ self.now.segments }
         ensures whole { IsWhole self.now }
         ensures legal { IsLegal self.now.history }

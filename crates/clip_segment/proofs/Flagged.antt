@@ -19,7 +19,7 @@ use Rattle.clip_grammar.specs.Tree.{Tree}
 use Rattle.clip_grammar.proofs.Booleans.{either}
 use Rattle.clip_extract.specs.Keys.{KeyValue, key_cmp}
 use Rattle.clip_segment.specs.Index.{query_positions}
-use Rattle.clip_segment.specs.Selecting.{flagged, kept_of, count_set}
+use Rattle.clip_indexed.specs.Selecting.{flagged, kept_of, count_set}
 use Rattle.clip_segment.specs.Steps.Parts.{flag_at, moved, new_position, new_positions}
 
 -- nothing is kept of none
@@ -97,19 +97,6 @@ flagged_rises (false ∷ flags) (k ∷ ks) rising = flagged_rises flags ks risin
 pub none_rise : IsStrictlySortedBy key_cmp []
 unfolding IsStrictlySortedBy
 none_rise = tt
-
--- how many flags are set, the first and those behind it
-pub count_first : (flag : Bool) (flags : List Bool) → count_by (λ flag. flag) (flag ∷ flags)
-    ≡ cond flag 1 0 + count_by (λ flag. flag) flags
-count_first flag flags = sum_by-cons (λ (x : Bool). cond x 1 0) flag flags
-
--- at most as many are kept as flags are set
-pub flagged_few : {A : Type 0} (flags : List Bool) (xs : List A)
-    → length (flagged flags xs) ≤ count_by (λ flag. flag) flags
-flagged_few [] xs = omega arith
-flagged_few (flag ∷ flags) [] = omega arith
-flagged_few (true ∷ flags) (x ∷ xs) = omega (arith, flagged_few flags xs, count_first true flags)
-flagged_few (false ∷ flags) (x ∷ xs) = omega (arith, flagged_few flags xs, count_first false flags)
 
 -- ---- members
 
@@ -275,19 +262,6 @@ few_next flags i place n bound now is at few =
     let same : count_by (λ (flag : Bool). flag) now ≡ count_by (λ flag. flag) (unwrap_or (slice_get flags i) []) =
     ap (count_by (λ flag. flag)) (is ∙ ap (λ k. unwrap_or (slice_get flags k) []) at) in
     rw add-one (omega (arith, count_from flags i, same, few))
-
-pub kept_few : {A : Type 0} (lists : List (List A)) (flags : List (List Bool)) → length (kept_of lists flags)
-    ≤ count_set flags
-kept_few [] flags = omega arith
-kept_few (xs ∷ lists) [] = omega arith
-kept_few (xs ∷ lists) (fs ∷ flags) =
-    omega (
-      arith,
-      length-append (flagged fs xs) (kept_of lists flags),
-      flagged_few fs xs,
-      kept_few lists flags,
-      count_from (fs ∷ flags) 0,
-    )
 
 -- ---- flags that are set
 

@@ -15,12 +15,13 @@ use Rattle.clip_plan.proofs.Names.{plan_renamed}
 use Rattle.clip_plan.proofs.Numbering.{are_parts}
 use Rattle.clip_segment.specs.Index.{IndexValue, IsIndexOf, asked_of, has_key, positions_by, query_positions_with}
 use Rattle.clip_segment.specs.Index.{terms_of}
-use Rattle.clip_segment.specs.Selecting.{flagged}
+use Rattle.clip_indexed.specs.Selecting.{flagged}
 use Rattle.clip_segment.specs.Steps.Parts.{AreFrom, keys_by, listed, lists_by, moved, new_positions, taken}
 use Rattle.clip_segment.specs.declared.index_selecting.Source.{Source}
 use Rattle.clip_segment.proofs.Answering.{list_of_key, no_number}
 use Rattle.clip_segment.proofs.Asked.{AreAsked, asked_parts, keys_asked, seconds_asked}
-use Rattle.clip_segment.proofs.Flagged.{flagged_few, positions_moved}
+use Rattle.clip_indexed.proofs.Flagged.{flagged_few}
+use Rattle.clip_segment.proofs.Flagged.{positions_moved}
 
 -- ---- positions
 

@@ -16,7 +16,7 @@ use Rattle.clip_plan.specs.Plan.{Mark, names, decoded, plan_of, word_keys}
 use Rattle.clip_plan.proofs.Names.{numbered_words, words_only}
 use Rattle.clip_plan.proofs.Renumbering.{past_last}
 use Rattle.clip_segment.specs.Index.{IndexValue, IsIndexOf, asked_of, has_key, positions_by}
-use Rattle.clip_segment.specs.Selecting.{flagged}
+use Rattle.clip_indexed.specs.Selecting.{flagged}
 use Rattle.clip_segment.specs.Steps.Parts.{flag_at}
 use Rattle.clip_segment.proofs.AnyOf.{any_or, any_flat_map}
 use Rattle.clip_segment.proofs.Answering.{list_at, list_of_number, no_term}

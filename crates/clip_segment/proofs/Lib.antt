@@ -4,7 +4,6 @@ pub mod Asked
 pub mod Counting
 pub mod EntryPositions
 pub mod Flagged
-pub mod Found
 pub mod Holding
 pub mod IndexPositions
 pub mod KeptLists

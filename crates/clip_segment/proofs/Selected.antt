@@ -3,7 +3,8 @@ use Rattle.std.proofs.Common.{◌≡◌, Bool, true, false, List, [], ◌∷◌,
 use Rattle.std.proofs.lemmas.List.{length-map, map-append}
 use Rattle.clip_grammar.specs.Tree.{Tree}
 use Rattle.clip_segment.specs.Index.{IndexValue, IsIndexOf}
-use Rattle.clip_segment.specs.Selecting.{AreFlagsOf, AreIndexesOf, flagged, kept_of}
+use Rattle.clip_indexed.specs.Selecting.{AreFlagsOf, flagged, kept_of}
+use Rattle.clip_segment.specs.Selecting.{AreIndexesOf}
 use Rattle.clip_model.specs.History.{Registered}
 use Rattle.clip_segment.specs.Segment.{trees_of}
 

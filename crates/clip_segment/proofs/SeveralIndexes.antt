@@ -11,7 +11,8 @@ use Rattle.clip_extract.specs.Keys.{KeyValue, is_same}
 use Rattle.clip_extract.proofs.Order.{among_in_order}
 use Rattle.clip_plan.specs.Plan.{are_terms}
 use Rattle.clip_segment.specs.Index.{IndexValue, IsIndexOf, asked_of, terms_of}
-use Rattle.clip_segment.specs.Selecting.{AreFlagsOf, AreIndexesOf, flagged, kept_of}
+use Rattle.clip_indexed.specs.Selecting.{AreFlagsOf, flagged, kept_of}
+use Rattle.clip_segment.specs.Selecting.{AreIndexesOf}
 use Rattle.clip_segment.proofs.Asked.{in_first, in_second, terms_from}
 use Rattle.clip_segment.proofs.Flagged.{kept_more}
 

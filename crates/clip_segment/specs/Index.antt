@@ -5,7 +5,7 @@ use Rattle.clip_grammar.specs.Tree.{Tree}
 use Rattle.clip_extract.specs.Keys.{KeyValue, in_order, is_same, share}
 use Rattle.clip_extract.specs.Extraction.{query_keys, second_keys}
 use Rattle.clip_plan.specs.Plan.{Mark, decoded, plan_of, word_keys}
-use Rattle.clip_segment.specs.declared.segment.TheConstants.{MOST_POSITIONS}
+use Rattle.clip_indexed.specs.declared.segment.TheConstants.{MOST_POSITIONS}
 
 -- ---- positions of queries
 

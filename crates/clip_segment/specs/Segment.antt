@@ -1,6 +1,6 @@
 -- The entries of segments, and the positions at which they hold keys.
-use Rattle.std.specs.Prelude.{ℕ, ◌<◌, Bool, List, [], ◌∷◌, ◌++◌, map, filter, is_some}
-use Rattle.std.specs.List.{enumerate_from, list_any, AllPairs}
+use Rattle.std.specs.Prelude.{ℕ, Bool, List, map, filter, is_some}
+use Rattle.std.specs.List.{enumerate_from, list_any}
 use Rattle.clip_extract.specs.Extraction.{query_keys}
 use Rattle.clip_extract.specs.Keys.{KeyValue, is_same, share}
 use Rattle.clip_grammar.specs.Tree.{Tree}
@@ -32,19 +32,7 @@ ids_of entries = map (λ e. e.standing.id) entries
 abbrev pub heard_of : List Registered → List Bool
 heard_of entries = map (λ e. is_some e.standing.listener) entries
 
-abbrev pub seqs_of : List Registered → List ℕ
-seqs_of entries = map (λ e. e.seq) entries
-
 -- entries, and an article that they are asked of
 pub record AskedValue : Type 0 where
   pub entries : List Registered
   pub article : ArticleValue
-
--- each seq is above those before it
-pub record IsRising (entries : List Registered) : Type 0 where
-  pub rises : AllPairs (λ e f. e.seq < f.seq) entries
-
--- the entries of all segments, in order
-abbrev pub all_entries : List (List Registered) → List Registered
-all_entries [] = []
-all_entries (segment ∷ segments) = segment ++ all_entries segments

@@ -10,7 +10,7 @@ ghost use Rattle.clip_terms.specs.Terms.{number_of};
 ghost use Rattle.clip_plan.specs.Plan.{are_terms, decoded, plan_of};
 ghost use Rattle.clip_segment.specs.Index.{asked_of, terms_of};
 ghost use Rattle.clip_segment.specs.Steps.Parts.{AreListsOf};
-ghost use Rattle.clip_segment.specs.declared.segment.TheConstants.{MOST_POSITIONS};
+ghost use Rattle.clip_indexed.specs.declared.segment.TheConstants.{MOST_POSITIONS};
 
 use crate::term_lists::TermLists;
 use clip_extract::{Key, keys, second_keys};

@@ -5,8 +5,9 @@ ghost use Rattle.clip_extract.specs.Keys.{key_of};
 ghost use Rattle.clip_extract.specs.Extraction.{query_keys};
 ghost use Rattle.clip_segment.specs.Index.{IsIndexOf, query_positions_with, terms_of};
 ghost use Rattle.clip_segment.specs.Steps.Parts.{AreMadeOf};
-ghost use Rattle.clip_segment.specs.Selecting.{AreFlagsOf, AreIndexesOf, count_set, kept_of};
-ghost use Rattle.clip_segment.specs.declared.segment.TheConstants.{MOST_POSITIONS};
+ghost use Rattle.clip_indexed.specs.Selecting.{AreFlagsOf, count_set, kept_of};
+ghost use Rattle.clip_segment.specs.Selecting.{AreIndexesOf};
+ghost use Rattle.clip_indexed.specs.declared.segment.TheConstants.{MOST_POSITIONS};
 
 use crate::building::{lists_of, plans_of, terms_of, with_keys};
 use crate::index_selecting::{sources_of, taken_lists};

@@ -9,10 +9,11 @@ ghost use Rattle.clip_extract.specs.Keys.{KeyValue, key_cmp};
 ghost use Rattle.clip_terms.specs.Terms.{number_of, term_at};
 ghost use Rattle.clip_plan.specs.Plan.{are_terms, decoded, renamed};
 ghost use Rattle.clip_segment.specs.Index.{IsIndexOf, asked_of, terms_of};
-ghost use Rattle.clip_segment.specs.Selecting.{AreFlagsOf, AreIndexesOf, count_set, flagged, kept_of};
+ghost use Rattle.clip_indexed.specs.Selecting.{AreFlagsOf, count_set, flagged, kept_of};
+ghost use Rattle.clip_segment.specs.Selecting.{AreIndexesOf};
 ghost use Rattle.clip_segment.specs.Steps.Parts.{AreFrom, listed, lists_by, moved, new_position, new_positions, taken};
 ghost use Rattle.clip_segment.specs.declared.index_selecting.Source.{Source};
-ghost use Rattle.clip_segment.specs.declared.segment.TheConstants.{MOST_POSITIONS};
+ghost use Rattle.clip_indexed.specs.declared.segment.TheConstants.{MOST_POSITIONS};
 
 use crate::index::Index;
 use crate::kept_terms::{flag_at, flags_of};

@@ -7,7 +7,8 @@ ghost use Rattle.clip_grammar.specs.Tree.{Tree};
 ghost use Rattle.clip_extract.specs.Keys.{KeyValue, key_of, key_cmp, is_same};
 ghost use Rattle.clip_plan.specs.Plan.{names};
 ghost use Rattle.clip_segment.specs.Index.{IsIndexOf, asked_of, terms_of};
-ghost use Rattle.clip_segment.specs.Selecting.{AreFlagsOf, AreIndexesOf, flagged, kept_of};
+ghost use Rattle.clip_indexed.specs.Selecting.{AreFlagsOf, flagged, kept_of};
+ghost use Rattle.clip_segment.specs.Selecting.{AreIndexesOf};
 ghost use Rattle.clip_segment.specs.Steps.Parts.{flag_at};
 
 use crate::index::Index;

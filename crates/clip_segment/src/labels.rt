@@ -2,7 +2,7 @@
 ghost use Rattle.std.specs.Prelude.{◌≡◌, ◌∷◌, ◌++◌, [], IfOk, OnOk, map, vec_items};
 ghost use Rattle.std.specs.Arc.{arc_value};
 ghost use Rattle.clip_segment.specs.Segment.{ids_of, heard_of};
-ghost use Rattle.clip_segment.specs.Selecting.{flagged, kept_of};
+ghost use Rattle.clip_indexed.specs.Selecting.{flagged, kept_of};
 
 use crate::packed_texts::PackedTexts;
 use crate::segment::Segment;

@@ -2,7 +2,7 @@
 ghost use Rattle.std.specs.Prelude.{◌≡◌, ◌∷◌, ◌++◌, [], IfOk, length};
 ghost use Rattle.std.specs.List.{slice_get};
 ghost use Rattle.std.specs.Option.{option_copied};
-ghost use Rattle.clip_segment.specs.Selecting.{flagged};
+ghost use Rattle.clip_indexed.specs.Selecting.{flagged};
 
 use crate::kept_terms::flag_at;
 use clip_words::NoMemory;

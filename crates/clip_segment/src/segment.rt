@@ -17,9 +17,10 @@ ghost use Rattle.clip_extract.specs.Extraction.{second_keys};
 ghost use Rattle.clip_extract.specs.Keys.{key_of};
 ghost use Rattle.clip_grammar.specs.Tree.{tree_of};
 ghost use Rattle.clip_segment.specs.Index.{IsIndexOf, positions_under};
-ghost use Rattle.clip_segment.specs.Selecting.{AreFlagsOf, count_set, kept_of};
-ghost use Rattle.clip_segment.specs.Segment.{IsRising, heard_of, ids_of, positions_with, seqs_of, trees_of};
-ghost use Rattle.clip_segment.specs.declared.segment.TheConstants.{MOST_POSITIONS};
+ghost use Rattle.clip_indexed.specs.Selecting.{AreFlagsOf, count_set, kept_of};
+ghost use Rattle.clip_indexed.specs.Segment.{IsRising, seqs_of};
+ghost use Rattle.clip_segment.specs.Segment.{heard_of, ids_of, positions_with, trees_of};
+ghost use Rattle.clip_indexed.specs.declared.segment.TheConstants.{MOST_POSITIONS};
 
 use crate::index::Index;
 use crate::labels::Labels;

@@ -2,9 +2,11 @@
 ghost use Rattle.std.specs.Prelude.{◌≡◌, ◌≤◌, ◌++◌, IfOk, OnOk, length, map, vec_items};
 ghost use Rattle.std.specs.Arc.{arc_value};
 ghost use Rattle.clip_segment.specs.Index.{IsIndexOf};
-ghost use Rattle.clip_segment.specs.Selecting.{AreFlagsOf, AreIndexesOf, count_set, flagged, kept_of};
-ghost use Rattle.clip_segment.specs.Segment.{IsRising, trees_of};
-ghost use Rattle.clip_segment.specs.declared.segment.TheConstants.{MOST_POSITIONS};
+ghost use Rattle.clip_indexed.specs.Selecting.{AreFlagsOf, count_set, flagged, kept_of};
+ghost use Rattle.clip_segment.specs.Selecting.{AreIndexesOf};
+ghost use Rattle.clip_indexed.specs.Segment.{IsRising};
+ghost use Rattle.clip_segment.specs.Segment.{trees_of};
+ghost use Rattle.clip_indexed.specs.declared.segment.TheConstants.{MOST_POSITIONS};
 
 use crate::index::Index;
 use crate::segment::Segment;

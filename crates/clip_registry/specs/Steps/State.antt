@@ -10,7 +10,7 @@ use Rattle.clip_registry.specs.Steps.Roster.{Roster}
 use Rattle.clip_registry.specs.RegistryState.{RegistryState, IsWhole, beginning}
 use Rattle.clip_registry.specs.declared.state.State.TheInside.{Inside}
 
-abbrev pub state_of : Inside → RegistryState
+abbrev pub state_of : {I : Type 0} → Inside I → RegistryState
 state_of s = record { segments = map arc_value s.segments.items; history = s.log.history; keeps = s.log.keeps }
 
 -- The registry is whole over a legal history, the roster is what the history replays to, and each caller's commands are
@@ -25,7 +25,7 @@ pub record IsConsistent (state : RegistryState) (roster : Roster) (counts : List
       → slice_index counts (caller - 1) ≡ length (own state.history caller)
 
 -- and beside each segment its entries are flagged where they are live
-abbrev pub IsConsistentInside : Inside → Type 0
+abbrev pub IsConsistentInside : {I : Type 0} → Inside I → Type 0
 IsConsistentInside s = IsConsistent (state_of s) s.roster s.counts.items
     × (s.live.items ≡ flags_in s.roster.registry (map arc_value s.segments.items))
 

@@ -3,8 +3,9 @@ use Rattle.std.specs.Prelude.{◌≡◌, ◌≤◌, List, map, length}
 use Rattle.std.specs.Arc.{arc_value}
 use Rattle.clip_segment.specs.Index.{IsIndexOf}
 use Rattle.clip_model.specs.History.{Registered}
-use Rattle.clip_segment.specs.Segment.{IsRising, heard_of, ids_of, seqs_of, trees_of}
-use Rattle.clip_segment.specs.declared.segment.TheConstants.{MOST_POSITIONS}
+use Rattle.clip_indexed.specs.Segment.{IsRising, seqs_of}
+use Rattle.clip_segment.specs.Segment.{heard_of, ids_of, trees_of}
+use Rattle.clip_indexed.specs.declared.segment.TheConstants.{MOST_POSITIONS}
 use Rattle.clip_segment.specs.declared.segment.Segment.TheInside.{Inside}
 
 -- the entries of a segment

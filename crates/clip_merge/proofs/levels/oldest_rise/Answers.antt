@@ -7,7 +7,7 @@ use Rattle.clip_merge.proofs.Runs.{level_at}
 use Rattle.clip_merge.proofs.levels.oldest_rise.Goals as goal
 
 pub loop-at-preserved-then-here-highest : goal.loop-at-preserved-then-here-highest
-loop-at-preserved-then-here-highest c =
+loop-at-preserved-then-here-highest g c =
     let segments : List (List Registered) = map arc_value c.args.segments.now in
     let at : ℕ = c.loop-at.at - 1 in
     let here = level_at arc_value c.args.segments.now at c.index-segments-at.result c.len.result c.level-here.result
@@ -16,7 +16,7 @@ loop-at-preserved-then-here-highest c =
     c.if-here-highest.true c.loop-at.invariant
 
 pub loop-at-preserved : goal.loop-at-preserved
-loop-at-preserved c =
+loop-at-preserved g c =
     let segments : List (List Registered) = map arc_value c.args.segments.now in
     let at : ℕ = c.loop-at.at - 1 in
     let inside : at < length segments = omega (arith, length-map c.args.segments.now arc_value) in
@@ -26,5 +26,5 @@ loop-at-preserved c =
     here c.if-here-highest.false c.loop-at.invariant
 
 pub returns-clause-rise : goal.returns-clause-rise
-returns-clause-rise c = seen_all (map arc_value c.args.segments.now) c.loop-at.at c.loop-at.highest c.loop-at.oldest
+returns-clause-rise g c = seen_all (map arc_value c.args.segments.now) c.loop-at.at c.loop-at.highest c.loop-at.oldest
     (omega arith) c.loop-at.invariant

@@ -8,7 +8,7 @@ use Rattle.clip_merge.proofs.levels.plan.Goals as goal
 use Rattle.clip_merge.proofs.levels.plan.Goals.{then-here-last, else-here-last}
 
 pub returns-then-count-eq-RUN_LENGTH-clause-run : goal.returns-then-count-eq-RUN_LENGTH-clause-run
-returns-then-count-eq-RUN_LENGTH-clause-run c =
+returns-then-count-eq-RUN_LENGTH-clause-run g c =
     let segments : List (List Registered) = map arc_value c.args.segments.now in
     let at : ℕ = c.loop-at.at in
     let few = c.loop-at.invariant.few in
@@ -27,7 +27,7 @@ returns-then-count-eq-RUN_LENGTH-clause-run c =
     ]
 
 pub loop-at-preserved : goal.loop-at-preserved
-loop-at-preserved c =
+loop-at-preserved g c =
     let segments : List (List Registered) = map arc_value c.args.segments.now in
     let at : ℕ = c.loop-at.at in
     let few = c.loop-at.invariant.few in
@@ -46,5 +46,5 @@ loop-at-preserved c =
     ]
 
 pub returns-clause-none : goal.returns-clause-none
-returns-clause-none c = λ none first run. c.loop-at.invariant.none first (let there = run.there in
+returns-clause-none g c = λ none first run. c.loop-at.invariant.none first (let there = run.there in
     omega (arith, length-map c.args.segments.now arc_value, c.loop-at-test.false)) run

@@ -4,4 +4,4 @@ use Rattle.clip_merge.proofs.Runs.{Walked}
 use Rattle.clip_merge.proofs.levels.plan.Given as goal
 
 abbrev pub invariant-loop-at : goal.invariant-loop-at
-invariant-loop-at l = Walked (map arc_value l.segments) l.at l.count l.last
+invariant-loop-at g l = Walked (map arc_value l.segments) l.at l.count l.last

@@ -2,15 +2,15 @@ use Rattle.std.proofs.Common.{◌≡◌, ◌≤◌, map, vec_items, sym, ap, sub
 use Rattle.std.proofs.lemmas.List.{take_all}
 use Rattle.std.proofs.lemmas.Result.{IfOk-weaker}
 use Rattle.std.specs.Arc.{arc_value}
-use Rattle.clip_segment.specs.Selecting.{AreFlagsOf, count_set, kept_of}
-use Rattle.clip_segment.specs.Segment.{IsRising, all_entries}
-use Rattle.clip_segment.specs.declared.segment.TheConstants.{MOST_POSITIONS}
+use Rattle.clip_indexed.specs.Selecting.{AreFlagsOf, count_set, kept_of}
+use Rattle.clip_indexed.specs.Segment.{IsRising, all_entries}
+use Rattle.clip_indexed.specs.declared.segment.TheConstants.{MOST_POSITIONS}
 use Rattle.clip_merge.specs.Live.{named}
 use Rattle.clip_merge.proofs.Named.{flags_of, flags_each, count_named, kept_named, named_rising}
 use Rattle.clip_merge.proofs.merging.merge.Goals as goal
 
 pub select-requires-clause-flags : goal.select-requires-clause-flags
-select-requires-clause-flags c =
+select-requires-clause-flags g c =
     let segments = map arc_value c.args.segments.now in
     let flags : map vec_items c.deref-2.result.now ≡ flags_of c.args.live.now segments =
     ap (map vec_items) c.deref-2.ensures.value ∙ c.loop-segment.invariant
@@ -19,7 +19,7 @@ select-requires-clause-flags c =
     subst (AreFlagsOf segments) (sym flags) (flags_each c.args.live.now segments)
 
 pub select-requires-clause-short : goal.select-requires-clause-short
-select-requires-clause-short c =
+select-requires-clause-short g c =
     let segments = map arc_value c.args.segments.now in
     let flags : map vec_items c.deref-2.result.now ≡ flags_of c.args.live.now segments =
     ap (map vec_items) c.deref-2.ensures.value ∙ c.loop-segment.invariant
@@ -28,7 +28,7 @@ select-requires-clause-short c =
     subst (λ n. n ≤ MOST_POSITIONS) (sym (ap count_set flags ∙ count_named c.args.live.now segments)) c.requires.short
 
 pub select-requires-clause-rising : goal.select-requires-clause-rising
-select-requires-clause-rising c =
+select-requires-clause-rising g c =
     let segments = map arc_value c.args.segments.now in
     let flags : map vec_items c.deref-2.result.now ≡ flags_of c.args.live.now segments =
     ap (map vec_items) c.deref-2.ensures.value ∙ c.loop-segment.invariant
@@ -38,7 +38,7 @@ select-requires-clause-rising c =
     (named_rising c.args.live.now (all_entries segments) c.requires.rising)
 
 pub returns : goal.returns
-returns c =
+returns g c =
     let segments = map arc_value c.args.segments.now in
     let flags : map vec_items c.deref-2.result.now ≡ flags_of c.args.live.now segments =
     ap (map vec_items) c.deref-2.ensures.value ∙ c.loop-segment.invariant

@@ -4,5 +4,5 @@ use Rattle.clip_merge.proofs.Named.{flags_of}
 use Rattle.clip_merge.proofs.merging.merge.Given as goal
 
 abbrev pub invariant-loop-segment : goal.invariant-loop-segment
-invariant-loop-segment l =
+invariant-loop-segment g l =
     map vec_items l.kept.items ≡ flags_of l.live (map arc_value (take l.segment-index l.segments))

@@ -9,35 +9,37 @@ use Rattle.clip_registry.specs.Steps.LiveFlags.{flags_by, without_all}
 use Rattle.clip_registry.specs.Steps.Roster.{Roster, has_or_awaits}
 use Rattle.clip_registry.proofs.Gone.{flags_had, flags_left}
 use Rattle.clip_registry.proofs.LiveFlags.{shape_of}
+use Rattle.clip_registry.proofs.change.change.Given.{Over}
 use Rattle.clip_registry.proofs.change.change.Goals as goal
 use Rattle.clip_registry.proofs.change.change.Goals.{After-len}
 
-fewer : (c : After-len) → finite.len c.in_ok-roster-in-Delete.roster.registry ≤ finite.len c.args.roster.registry
-fewer c = subst (λ (r : Roster). finite.len r.registry ≤ finite.len c.args.roster.registry)
+fewer : (g : Over) (c : After-len g)
+    → finite.len c.in_ok-roster-in-Delete.roster.registry ≤ finite.len c.args.roster.registry
+fewer g c = subst (λ (r : Roster). finite.len r.registry ≤ finite.len c.args.roster.registry)
     (sym c.in_ok-roster-in-Delete.ensures.roster)
     (len_removed (map string_bytes c.deref-in-Delete.result.now) c.args.roster.registry)
 
 pub overflow_sub-applied : goal.overflow_sub-applied
-overflow_sub-applied c = let a = fewer c in let b = c.len.ensures in let d = c.len-before.ensures in omega arith
+overflow_sub-applied g c = let a = fewer g c in let b = c.len.ensures in let d = c.len-before.ensures in omega arith
 
 pub clear_each-requires : goal.clear_each-requires
-clear_each-requires c =
+clear_each-requires g c =
     ap (map length) c.requires.flags
     ∙ shape_of (is_live_in c.args.roster.registry) (map arc_value c.args.segments.items)
     ∙ ap (λ ss. map length (map arc_value ss)) (sym c.deref-in-Delete-2.ensures.value)
 
 pub returns-in_ok-clear_each-in-Delete-clause-changed : goal.returns-in_ok-clear_each-in-Delete-clause-changed
-returns-in_ok-clear_each-in-Delete-clause-changed c = record {
+returns-in_ok-clear_each-in-Delete-clause-changed g c = record {
   registry = search rules;
   listed = search rules;
   segments = search rules;
-  small = let a = fewer (goal.at.returns-in_ok-clear_each-in-Delete-clause-changed c).After-len in
+  small = let a = fewer g (goal.at.returns-in_ok-clear_each-in-Delete-clause-changed g c).After-len in
       let b = c.requires.small in omega arith;
   answer = search rules;
 }
 
 pub returns-in_ok-clear_each-in-Delete-clause-flags : goal.returns-in_ok-clear_each-in-Delete-clause-flags
-returns-in_ok-clear_each-in-Delete-clause-flags c =
+returns-in_ok-clear_each-in-Delete-clause-flags g c =
     let before = c.args.roster in
     let after = c.in_ok-roster-in-Delete.roster in
     let segments = map arc_value c.args.segments.items in
@@ -52,7 +54,7 @@ returns-in_ok-clear_each-in-Delete-clause-flags c =
     c.requires.within
 
 pub returns-in-Clear-clause-changed : goal.returns-in-Clear-clause-changed
-returns-in-Clear-clause-changed c = record {
+returns-in-Clear-clause-changed g c = record {
   registry = search rules;
   listed = search rules;
   segments = search rules;

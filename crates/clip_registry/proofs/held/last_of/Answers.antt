@@ -6,6 +6,6 @@ use Rattle.clip_registry.specs.Steps.State.{state_or_beginning}
 use Rattle.clip_registry.proofs.held.last_of.Goals as goal
 
 pub returns-in-None-clause-legal : goal.returns-in-None-clause-legal
-returns-in-None-clause-legal c =
+returns-in-None-clause-legal g c =
     λ keeps. subst (λ (s : RegistryState). IsLegal s.history) (ap (state_or_beginning keeps) (sym c.in-None.is))
     legal_beginning

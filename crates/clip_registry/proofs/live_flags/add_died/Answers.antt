@@ -1,13 +1,13 @@
 use Rattle.std.proofs.Common.{◌≡◌, ℕ, ◌<◌, ◌++◌, ◌∷◌, [], get_or, take, length, sym, ap, ◌∙◌, arith, append_assoc}
 use Rattle.clip_pieces.specs.Marked.{is_lost}
 use Rattle.clip_pieces.proofs.Lost.{lost_within}
-use Rattle.clip_segment.specs.Segment.{seqs_of}
+use Rattle.clip_indexed.specs.Segment.{seqs_of}
 use Rattle.clip_registry.specs.Steps.LiveFlags.{died, flags_of}
 use Rattle.clip_registry.proofs.Clearing.{all_died, one_more}
 use Rattle.clip_registry.proofs.live_flags.add_died.Goals as goal
 
 pub loop-place-preserved : goal.loop-place-preserved
-loop-place-preserved c =
+loop-place-preserved g c =
     let place = c.in-Some.place in
     let from = c.loop-place.from in
     let source = c.args.source.now in
@@ -30,7 +30,7 @@ loop-place-preserved c =
     }
 
 pub returns : goal.returns
-returns c = λ is was here begun.
+returns g c = λ is was here begun.
     c.loop-place.invariant.done is was here begun
     ∙ ap (λ ds. c.args.seqs.now.items ++ seqs_of ds)
     (all_died is was c.args.source.now c.loop-place.from c.loop-place.invariant.within

@@ -25,7 +25,7 @@ live_more is es k e flag low at set =
     (sym (set ∙ get_or-map p es k e false low ∙ ap p at))
 
 pub loop-place-preserved : goal.loop-place-preserved
-loop-place-preserved c = λ is are.
+loop-place-preserved g c = λ is are.
     let p = λ (r : Registered). is r.seq in
     let place = c.loop-place.place in
     let es = c.args.segment.now in
@@ -59,7 +59,7 @@ loop-place-preserved c = λ is are.
     ]
 
 pub returns : goal.returns
-returns c = λ is are.
+returns g c = λ is are.
     let items = c.entries-entry-items.result.now in
     c.loop-place.invariant is are
     ∙ ap (λ es. map (λ (e : Bor Entry). e.now) c.args.found.now.items ++ filter (λ (r : Registered). is r.seq) es)

@@ -5,7 +5,7 @@ use Rattle.clip_registry.proofs.LiveFlags.{without-append}
 use Rattle.clip_registry.proofs.live_flags.clear.Goals as goal
 
 pub loop-seq-preserved : goal.loop-seq-preserved
-loop-seq-preserved c =
+loop-seq-preserved g c =
     let seqs = c.args.seqs.now in
     let at = c.loop-seq.seq-index in
     let seq = get_or seqs at 0 in
@@ -19,7 +19,7 @@ loop-seq-preserved c =
     }
 
 pub returns : goal.returns
-returns c = λ is are.
+returns g c = λ is are.
     c.loop-seq.invariant.done is are
     ∙ ap (λ ss. flags_of (without_all ss is) c.args.segment.now)
     (take_all c.loop-seq.seq-index c.args.seqs.now c.loop-seq-test.false)

@@ -7,7 +7,7 @@ use Rattle.clip_registry.proofs.LiveFlags.{as_many, flags_at, flags_from, segmen
 use Rattle.clip_registry.proofs.live_flags.clear_each.Goals as goal
 
 pub clear-requires : goal.clear-requires
-clear-requires c =
+clear-requires g c =
     let place = c.loop-place.place in
     let flags = c.loop-place.live.items in
     let segments = c.args.segments.now in
@@ -25,7 +25,7 @@ clear-requires c =
     ∙ sym c.deref.ensures)
 
 pub loop-place-preserved : goal.loop-place-preserved
-loop-place-preserved c =
+loop-place-preserved g c =
     let place = c.loop-place.place in
     let flags = c.loop-place.live.items in
     let segments = c.args.segments.now in
@@ -62,7 +62,7 @@ loop-place-preserved c =
     }
 
 pub returns : goal.returns
-returns c = λ is are.
+returns g c = λ is are.
     let segments = c.args.segments.now in
     let test = c.loop-place-test.false in
     let many = as_many c.args.live.now.items segments c.requires in

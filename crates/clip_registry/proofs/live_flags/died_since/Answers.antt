@@ -2,14 +2,14 @@ use Rattle.std.proofs.Common.{◌≡◌, ◌<◌, ◌++◌, [], length, map, get
 use Rattle.std.proofs.Math.Seq.{take-length}
 use Rattle.std.proofs.lemmas.List.{get_or_default, length-map}
 use Rattle.std.specs.Arc.{arc_value}
-use Rattle.clip_segment.specs.Segment.{all_entries, seqs_of}
+use Rattle.clip_indexed.specs.Segment.{all_entries, seqs_of}
 use Rattle.clip_registry.specs.Steps.LiveFlags.{died, flags_of}
 use Rattle.clip_registry.proofs.Clearing.{died_more}
 use Rattle.clip_registry.proofs.LiveFlags.{as_many, flags_here, segment_at, shape_at}
 use Rattle.clip_registry.proofs.live_flags.died_since.Goals as goal
 
 pub add_died-requires : goal.add_died-requires
-add_died-requires c =
+add_died-requires g c =
     let place = c.loop-place.place in
     let begun = c.args.begun.now in
     let sources = c.args.sources.now in
@@ -24,7 +24,7 @@ add_died-requires c =
     (segment_at sources place c.index-sources-place.result test c.index-sources-place.is ∙ sym c.deref.ensures)
 
 pub loop-place-preserved : goal.loop-place-preserved
-loop-place-preserved c = λ is was here before.
+loop-place-preserved g c = λ is was here before.
     let place = c.loop-place.place in
     let sources = c.args.sources.now in
     let all = map arc_value sources in
@@ -43,7 +43,7 @@ loop-place-preserved c = λ is was here before.
     ∙ sym (died_more is was arc_value sources place c.index-sources-place.result test c.index-sources-place.is)
 
 pub returns : goal.returns
-returns c = λ is was here before.
+returns g c = λ is was here before.
     let sources = c.args.sources.now in
     let low = c.loop-place-test.false in
     let high = c.loop-place.auto.place-end in

@@ -6,13 +6,13 @@ use Rattle.std.proofs.lemmas.List.Elements.{Contains-append_cases}
 use Rattle.std.proofs.lemmas.Option.{slice_get-get_or, unwrap_or-slice_get}
 use Rattle.std.specs.Arc.{arc_value}
 use Rattle.std.specs.List.{Contains}
-use Rattle.clip_segment.specs.Segment.{all_entries, seqs_of}
+use Rattle.clip_indexed.specs.Segment.{all_entries, seqs_of}
 use Rattle.clip_registry.specs.Steps.LiveFlags.{flags_of}
 use Rattle.clip_registry.proofs.LiveFlags.{flag_there, flags_here, segment_at, seqs_more}
 use Rattle.clip_registry.proofs.live_flags.has_live.Goals as goal
 
 pub returns-in-Some : goal.returns-in-Some
-returns-in-Some c = λ is are holds.
+returns-in-Some g c = λ is are holds.
     let place = c.loop-place.place in
     let segments = c.args.segments.now in
     let position = c.in-Some.position in
@@ -28,7 +28,7 @@ returns-in-Some c = λ is are holds.
     ∙ flag_there is c.deref.result.now c.args.seq position c.in-Some.ensures.there
 
 pub loop-place-preserved : goal.loop-place-preserved
-loop-place-preserved c = λ h.
+loop-place-preserved g c = λ h.
     let place = c.loop-place.place in
     let segments = c.args.segments.now in
     let seq = c.args.seq in
@@ -42,7 +42,7 @@ loop-place-preserved c = λ h.
     ]
 
 pub returns : goal.returns
-returns c = λ is are holds.
+returns g c = λ is are holds.
     let segments = c.args.segments.now in
     let seq = c.args.seq in
     let low = c.loop-place-test.false in

@@ -1,19 +1,19 @@
 use Rattle.std.proofs.Common.{map, length, replicate, true, sym, ap, subst, ◌∙◌, append-nil}
 use Rattle.std.specs.Arc.{arc_value}
-use Rattle.clip_segment.specs.Segment.{IsRising}
-use Rattle.clip_segment.specs.Selecting.{flagged, kept_of}
+use Rattle.clip_indexed.specs.Segment.{IsRising}
+use Rattle.clip_indexed.specs.Selecting.{flagged, kept_of}
 use Rattle.clip_registry.proofs.Picked.{flagged_all, rising_flagged}
 use Rattle.clip_registry.proofs.purging.live_segment.Goals as goal
 
 pub returns-then-are_all_set-clause-entries : goal.returns-then-are_all_set-clause-entries
-returns-then-are_all_set-clause-entries c =
+returns-then-are_all_set-clause-entries g c =
     let es = c.args.segment.now.value in
     let all = sym c.value.ensures ∙ c.are_all_set.ensures c.if-are_all_set.true
     ∙ ap (λ n. replicate n true) (ap length c.value.ensures ∙ c.requires) in
     c.in_ok-clone.ensures.cases ∙ sym (ap (λ fs. flagged fs es) all ∙ flagged_all es)
 
 pub select_live-requires-clause-rising : goal.select_live-requires-clause-rising
-select_live-requires-clause-rising c =
+select_live-requires-clause-rising g c =
     let es = c.args.segment.now.value in
     let flags = c.args.live.now in
     subst IsRising

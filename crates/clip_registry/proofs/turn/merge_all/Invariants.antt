@@ -3,10 +3,10 @@ use Rattle.clip_registry.specs.Steps.Turns.{TakesTurns}
 use Rattle.clip_registry.proofs.turn.merge_all.Given as goal
 
 abbrev pub invariant-loop : goal.invariant-loop
-invariant-loop l = record {
+invariant-loop g l = record {
   turns : TakesTurns l.fn.registrar l.registrar;
   history : l.registrar.history ≡ l.fn.registrar.history;
 }
 
 abbrev pub decreases-loop : goal.decreases-loop
-decreases-loop l = length l.registrar.segments
+decreases-loop g l = length l.registrar.segments

@@ -2,7 +2,7 @@
 use Rattle.std.proofs.Common.{◌≡◌, ◌+◌, ◌≤◌, ◌++◌, drop}
 use Rattle.std.specs.List.{count_by}
 use Rattle.clip_segment.specs.Steps.Parts.{new_positions}
-use Rattle.clip_segment.specs.declared.segment.TheConstants.{MOST_POSITIONS}
+use Rattle.clip_indexed.specs.declared.segment.TheConstants.{MOST_POSITIONS}
 use Rattle.clip_segment.proofs.index_selecting.new_positions.Given as goal
 
 abbrev pub invariant-loop-flag : goal.invariant-loop-flag

@@ -4,10 +4,10 @@ use Rattle.std.proofs.lemmas.List.{length-map}
 use Rattle.clip_grammar.specs.Tree.{Tree}
 use Rattle.clip_plan.specs.Plan.{are_terms}
 use Rattle.clip_segment.specs.Index.{asked_of}
-use Rattle.clip_segment.specs.Selecting.{flagged, kept_of}
+use Rattle.clip_indexed.specs.Selecting.{flagged, kept_of}
 use Rattle.clip_segment.specs.Steps.Parts.{AreFrom}
 use Rattle.clip_segment.specs.declared.index_selecting.Source.{Source}
-use Rattle.clip_segment.specs.declared.segment.TheConstants.{MOST_POSITIONS}
+use Rattle.clip_indexed.specs.declared.segment.TheConstants.{MOST_POSITIONS}
 use Rattle.clip_segment.proofs.Flagged.{few_next}
 use Rattle.clip_segment.proofs.SeveralIndexes.{all_kept, at_place, flags_at, index_here, kept_asked, next_kept}
 use Rattle.clip_segment.proofs.index_selecting.sources_of.Goals as goal

@@ -1,9 +1,10 @@
 use Rattle.std.proofs.Common.{◌≡◌, ◌+◌, ◌≤◌, [], List, length, map, drop, take, vec_items}
 use Rattle.clip_grammar.specs.Tree.{Tree}
 use Rattle.clip_segment.specs.Index.{terms_of}
-use Rattle.clip_segment.specs.Selecting.{AreFlagsOf, AreIndexesOf, count_set, kept_of}
+use Rattle.clip_indexed.specs.Selecting.{AreFlagsOf, count_set, kept_of}
+use Rattle.clip_segment.specs.Selecting.{AreIndexesOf}
 use Rattle.clip_segment.specs.Steps.Parts.{AreFrom}
-use Rattle.clip_segment.specs.declared.segment.TheConstants.{MOST_POSITIONS}
+use Rattle.clip_indexed.specs.declared.segment.TheConstants.{MOST_POSITIONS}
 use Rattle.clip_segment.proofs.index_selecting.sources_of.Given as goal
 
 abbrev pub invariant-loop-index : goal.invariant-loop-index

@@ -1,6 +1,6 @@
 -- The terms so far, with those to come.
 use Rattle.std.proofs.Common.{◌≡◌, ◌++◌, drop}
-use Rattle.clip_segment.specs.Selecting.{flagged}
+use Rattle.clip_indexed.specs.Selecting.{flagged}
 use Rattle.clip_segment.proofs.kept_terms.flagged_heads.Given as goal
 
 abbrev pub invariant-loop-number : goal.invariant-loop-number

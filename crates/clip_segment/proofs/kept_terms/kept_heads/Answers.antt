@@ -4,7 +4,7 @@ use Rattle.std.proofs.lemmas.List.{length-replicate}
 use Rattle.std.proofs.lemmas.Result.{IfOk-weaker}
 use Rattle.clip_extract.specs.Keys.{is_same}
 use Rattle.clip_segment.specs.Index.{IsIndexOf}
-use Rattle.clip_segment.specs.Selecting.{flagged}
+use Rattle.clip_indexed.specs.Selecting.{flagged}
 use Rattle.clip_segment.specs.Steps.IndexView.{index_of}
 use Rattle.clip_segment.specs.Steps.Parts.{flag_at}
 use Rattle.clip_segment.proofs.Answering.{list_at}

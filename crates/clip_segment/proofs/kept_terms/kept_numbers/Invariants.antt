@@ -1,7 +1,7 @@
 -- The numbers so far, with those to come.
 use Rattle.std.proofs.Common.{◌≡◌, ◌++◌, flat_map, drop}
 use Rattle.clip_plan.specs.Plan.{names}
-use Rattle.clip_segment.specs.Selecting.{flagged}
+use Rattle.clip_indexed.specs.Selecting.{flagged}
 use Rattle.clip_segment.proofs.kept_terms.kept_numbers.Given as goal
 
 abbrev pub invariant-loop-position : goal.invariant-loop-position

@@ -10,7 +10,7 @@ use Rattle.clip_extract.proofs.Members.{strict_keys}
 use Rattle.clip_extract.proofs.Order.{among_in_order, key_cmp_total, key_cmp_same}
 use Rattle.clip_terms.proofs.Numbers.{in_order_rises}
 use Rattle.clip_segment.specs.Index.{asked_of}
-use Rattle.clip_segment.specs.Selecting.{flagged}
+use Rattle.clip_indexed.specs.Selecting.{flagged}
 use Rattle.clip_segment.proofs.Flagged.{none_rise}
 use Rattle.clip_segment.proofs.SeveralIndexes.{all_kept, at_place, index_here, next_asked}
 use Rattle.clip_segment.proofs.kept_terms.kept_terms.Goals as goal

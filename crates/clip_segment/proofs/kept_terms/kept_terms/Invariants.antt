@@ -4,7 +4,8 @@ use Rattle.std.specs.List.Sorted.{IsStrictlySortedBy}
 use Rattle.clip_grammar.specs.Tree.{Tree}
 use Rattle.clip_extract.specs.Keys.{KeyValue, key_cmp, is_same}
 use Rattle.clip_segment.specs.Index.{asked_of}
-use Rattle.clip_segment.specs.Selecting.{AreFlagsOf, AreIndexesOf, kept_of}
+use Rattle.clip_indexed.specs.Selecting.{AreFlagsOf, kept_of}
+use Rattle.clip_segment.specs.Selecting.{AreIndexesOf}
 use Rattle.clip_segment.proofs.kept_terms.kept_terms.Given as goal
 
 abbrev pub invariant-loop-index : goal.invariant-loop-index

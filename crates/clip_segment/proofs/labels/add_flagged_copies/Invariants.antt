@@ -1,5 +1,5 @@
 use Rattle.std.proofs.Common.{◌≡◌, ◌++◌, length}
-use Rattle.clip_segment.specs.Selecting.{flagged}
+use Rattle.clip_indexed.specs.Selecting.{flagged}
 use Rattle.clip_segment.proofs.labels.add_flagged_copies.Given as goal
 
 abbrev pub invariant-loop-flag : goal.invariant-loop-flag

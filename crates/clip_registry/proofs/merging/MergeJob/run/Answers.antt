@@ -2,9 +2,9 @@ use Rattle.std.proofs.Common.{◌≡◌, ◌≤◌, Bool, List, length, map, rep
 use Rattle.std.proofs.lemmas.List.Elements.{same_from_all_zip}
 use Rattle.std.specs.Arc.{arc_value}
 use Rattle.clip_merge.specs.Live.{named}
-use Rattle.clip_segment.specs.Segment.{IsRising, all_entries}
-use Rattle.clip_segment.specs.Selecting.{count_set, kept_of}
-use Rattle.clip_segment.specs.declared.segment.TheConstants.{MOST_POSITIONS}
+use Rattle.clip_indexed.specs.Segment.{IsRising, all_entries}
+use Rattle.clip_indexed.specs.Selecting.{count_set, kept_of}
+use Rattle.clip_indexed.specs.declared.segment.TheConstants.{MOST_POSITIONS}
 use Rattle.clip_model.specs.History.{Registered}
 use Rattle.clip_registry.specs.Merging.{merge_of}
 use Rattle.clip_registry.specs.Steps.LiveFlags.{flags_by, flags_of}
@@ -14,44 +14,45 @@ use Rattle.clip_registry.proofs.LiveFlags.{shape_of}
 use Rattle.clip_registry.proofs.Naming.{named_picked}
 use Rattle.clip_registry.proofs.Picked.{count_picked, kept_by, picked}
 use Rattle.clip_registry.proofs.Rising.{rising_filter}
+use Rattle.clip_registry.proofs.merging.MergeJob.run.Given.{Over}
 use Rattle.clip_registry.proofs.merging.MergeJob.run.Goals as goal
 use Rattle.clip_registry.proofs.merging.MergeJob.run.Goals.{After-deref-2}
 
-abbrev of_job : After-deref-2 → List (List Registered)
-of_job c = map arc_value c.self.inside.sources.items
+abbrev of_job : (g : Over) → After-deref-2 g → List (List Registered)
+of_job g c = map arc_value c.self.inside.sources.items
 
-shared : (c : After-deref-2) → map arc_value c.deref.result.now ≡ of_job c
-shared c = ap (map arc_value) c.deref.ensures.value
+shared : (g : Over) (c : After-deref-2 g) → map arc_value c.deref.result.now ≡ of_job g c
+shared g c = ap (map arc_value) c.deref.ensures.value
 
-flagged : (c : After-deref-2) → c.deref-2.result.now ≡ flags_by c.self.invariant.is (of_job c)
-flagged c = c.deref-2.ensures.value ∙ c.self.invariant.flagged
+flagged : (g : Over) (c : After-deref-2 g) → c.deref-2.result.now ≡ flags_by c.self.invariant.is (of_job g c)
+flagged g c = c.deref-2.ensures.value ∙ c.self.invariant.flagged
 
 -- the entries that are kept
-kept : (c : After-deref-2) → kept_of (map arc_value c.deref.result.now) c.deref-2.result.now
-    ≡ picked c.self.invariant.is (all_entries (of_job c))
-kept c = (λ i. kept_of (shared c i) (flagged c i)) ∙ kept_by c.self.invariant.is (of_job c)
+kept : (g : Over) (c : After-deref-2 g) → kept_of (map arc_value c.deref.result.now) c.deref-2.result.now
+    ≡ picked c.self.invariant.is (all_entries (of_job g c))
+kept g c = (λ i. kept_of (shared g c i) (flagged g c i)) ∙ kept_by c.self.invariant.is (of_job g c)
 
 pub select_live-requires-clause-flags : goal.select_live-requires-clause-flags
-select_live-requires-clause-flags c =
-    ap (map length) (flagged c) ∙ shape_of c.self.invariant.is (of_job c) ∙ ap (map length) (sym (shared c))
+select_live-requires-clause-flags g c =
+    ap (map length) (flagged g c) ∙ shape_of c.self.invariant.is (of_job g c) ∙ ap (map length) (sym (shared g c))
 
 pub select_live-requires-clause-short : goal.select_live-requires-clause-short
-select_live-requires-clause-short c =
-    subst (λ n. n ≤ MOST_POSITIONS) (sym (ap count_set (flagged c) ∙ count_picked c.self.invariant.is (of_job c)))
+select_live-requires-clause-short g c =
+    subst (λ n. n ≤ MOST_POSITIONS) (sym (ap count_set (flagged g c) ∙ count_picked c.self.invariant.is (of_job g c)))
     c.self.invariant.short
 
 pub select_live-requires-clause-rising : goal.select_live-requires-clause-rising
-select_live-requires-clause-rising c =
-    subst IsRising (sym (kept c))
-    (rising_filter (λ r. c.self.invariant.is r.seq) (all_entries (of_job c)) c.self.invariant.rising)
+select_live-requires-clause-rising g c =
+    subst IsRising (sym (kept g c))
+    (rising_filter (λ r. c.self.invariant.is r.seq) (all_entries (of_job g c)) c.self.invariant.rising)
 
 pub invariant_of-result : goal.invariant_of-result
-invariant_of-result c =
+invariant_of-result g c =
     let is = c.self.invariant.is in
     let sources = map_shared c.self.inside.sources.items c.in_ok-clone.field-0.items c.in_ok-clone.ensures.cases.0 in
     let flags : c.in_ok-clone-2.field-0.items ≡ c.self.inside.flags.items =
     same_from_all_zip (λ (x y : List Bool). y ≡ x) _ _ c.in_ok-clone-2.ensures.cases.0 (λ x y e. e) in
-    let entries = c.in_ok-segment.ensures.entries ∙ kept (goal.at.invariant_of-result c).After-deref-2 in
+    let entries = c.in_ok-segment.ensures.entries ∙ kept g (goal.at.invariant_of-result g c).After-deref-2 in
     record {
       some = let same = ap length sources in let some = c.self.invariant.some in omega arith;
       rising = subst (λ (ss : List (List Registered)). IsRising (all_entries ss)) (sym sources) c.self.invariant.rising;
@@ -63,11 +64,11 @@ invariant_of-result c =
     }
 
 pub returns : goal.returns
-returns c =
+returns g c =
     let is = c.self.invariant.is in
     let all = map arc_value c.self.inside.sources.items in
     let sources = map_shared c.self.inside.sources.items c.in_ok-clone.field-0.items c.in_ok-clone.ensures.cases.0 in
-    let entries = c.in_ok-segment.ensures.entries ∙ kept (goal.at.returns c).After-deref-2 in
+    let entries = c.in_ok-segment.ensures.entries ∙ kept g (goal.at.returns g c).After-deref-2 in
     let seqs = λ (rs : List Registered). map (λ (r : Registered). r.seq) rs in
     let named_here : named (seqs (kept_of all c.self.inside.flags.items)) (all_entries all)
     ≡ picked is (all_entries all) =

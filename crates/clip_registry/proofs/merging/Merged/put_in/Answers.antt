@@ -3,7 +3,7 @@ use Rattle.std.proofs.Common.{◌∙◌, arith}
 use Rattle.std.proofs.lemmas.List.{length-map, map-append, take_all, take-map, drop-map}
 use Rattle.std.proofs.lemmas.List.Elements.{same_from_all_zip}
 use Rattle.std.specs.Arc.{arc_value}
-use Rattle.clip_segment.specs.Segment.{all_entries, seqs_of}
+use Rattle.clip_indexed.specs.Segment.{all_entries, seqs_of}
 use Rattle.clip_merge.specs.Plan.{neighbours}
 use Rattle.clip_model.specs.History.{is_live_in, replay}
 use Rattle.clip_registry.specs.Merging.{Merge, shelf}
@@ -12,31 +12,32 @@ use Rattle.clip_registry.specs.Steps.LiveFlags.{died, flags_by, flags_in, flags_
 use Rattle.clip_standing.proofs.Clones.{map_shared}
 use Rattle.clip_registry.proofs.Clearing.{left_flags}
 use Rattle.clip_registry.proofs.LiveFlags.{shape_of}
+use Rattle.clip_registry.proofs.merging.Merged.put_in.Given.{Over}
 use Rattle.clip_registry.proofs.merging.Merged.put_in.Goals as goal
 use Rattle.clip_registry.proofs.merging.Merged.put_in.Goals.{After-len-3, In_ok-clear, In_ok-extend_with_clones-4}
 
 tail : {X : Type 0} (xs : List X) (k : ℕ) → take (length xs - k) (drop k xs) ≡ drop k xs
 tail xs k = take_all (length xs - k) (drop k xs) (omega (arith, length-drop k xs))
 
-counted : (c : After-len-3) → c.len-3.result ≡ length c.args.self.sources
-counted c = c.len-3.ensures ∙ c.self.inside.sources.ok.0 ∙ sym (length-map c.self.inside.sources.items arc_value)
+counted : (g : Over) (c : After-len-3 g) → c.len-3.result ≡ length c.args.self.sources
+counted g c = c.len-3.ensures ∙ c.self.inside.sources.ok.0 ∙ sym (length-map c.self.inside.sources.items arc_value)
     ∙ ap (λ (m : Merge). length m.sources) c.self.view_is
 
 pub overflow_add-past : goal.overflow_add-past
-overflow_add-past c =
+overflow_add-past g c =
     let items = c.state.inside.segments.items in
     let many : length items ≡ length c.args.state.now.segments =
     sym (length-map items arc_value) ∙ ap (λ (s : RegistryState). length s.segments) c.state.view_is in
-    omega (arith, counted c, many, c.requires.there, c.state.inside.segments.ok.0, c.len.ensures, c.len.type_inv)
+    omega (arith, counted g c, many, c.requires.there, c.state.inside.segments.ok.0, c.len.ensures, c.len.type_inv)
 
 pub died_since-requires-clause-begun : goal.died_since-requires-clause-begun
-died_since-requires-clause-begun c =
+died_since-requires-clause-begun g c =
     let sources = map arc_value c.self.inside.sources.items in
     ap (map length) (c.deref-3.ensures.value ∙ c.self.invariant.flagged)
     ∙ shape_of c.self.invariant.is sources ∙ ap (λ ss. map length (map arc_value ss)) (sym c.deref.ensures.value)
 
 pub returns-clause-segments : goal.returns-clause-segments
-returns-clause-segments c =
+returns-clause-segments g c =
     let first = c.args.first in
     let all = c.args.state.now.segments in
     let added = c.in_ok-extend_with_clones.ensures.items in
@@ -52,16 +53,16 @@ returns-clause-segments c =
     map_shared (take (length those - past) (drop past those)) rest.0 rest.2 ∙ ap (map arc_value) (tail those past)
     ∙ sym (drop-map arc_value past those)
     ∙ ap (drop past) (ap (map arc_value) c.deref-8.ensures.value ∙ same)
-    ∙ ap (λ k. drop (first + k) all) (counted (goal.at.returns-clause-segments c).After-len-3) in
+    ∙ ap (λ k. drop (first + k) all) (counted g (goal.at.returns-clause-segments g c).After-len-3) in
     ap (map arc_value) rest.1 ∙ map-append arc_value c.shelve.new.segments.items rest.0
     ∙ ap₂ (λ xs ys. xs ++ ys)
     (c.in_ok-shelve.ensures.segments
     ∙ ap₂ (λ xs es. xs ++ shelf es) front (ap (λ (m : Merge). m.entries) c.self.view_is)) back
 
 -- the flags of the merge are those of what is live
-set : (c : In_ok-clear) → c.len-3.result ≡ length c.args.self.sources
+set : (g : Over) (c : In_ok-clear g) → c.len-3.result ≡ length c.args.self.sources
     → c.clear.new.flags ≡ flags_of (is_live_in c.state.inside.roster.registry) c.self.inside.segment.value
-set c count =
+set g c count =
     let is = is_live_in c.state.inside.roster.registry in
     let was = c.self.invariant.is in
     let first = c.args.first in
@@ -86,8 +87,8 @@ set c count =
     ∙ left_flags is was (all_entries sources) ∙ ap (flags_of is) (sym c.self.invariant.picked)
 
 pub returns-clause-flags : goal.returns-clause-flags
-returns-clause-flags c =
-    let here = goal.at.returns-clause-flags c in
+returns-clause-flags g c =
+    let here = goal.at.returns-clause-flags g c in
     let is = is_live_in c.state.inside.roster.registry in
     let first = c.args.first in
     let past = first + c.len-3.result in
@@ -117,7 +118,7 @@ returns-clause-flags c =
     ∙ sym (map_shared (take (length those - past) (drop past those)) rest.0 rest.2)) in
     last.1
     ∙ ap₂ (λ xs ys. xs ++ ys)
-    (c.in_ok-shelve.ensures.live is front (set here.In_ok-clear (counted here.After-len-3))) back
+    (c.in_ok-shelve.ensures.live is front (set g here.In_ok-clear (counted g here.After-len-3))) back
     ∙ sym (map-append (flags_of is) (map arc_value before) (map arc_value rest.0))
     ∙ ap (flags_by is) (sym (ap (map arc_value) rest.1 ∙ map-append arc_value before rest.0))
     ∙ ap (λ m. flags_in m (map arc_value c.extend_with_clones-3.new.self.items)) (c.state.invariant.0.registry

@@ -4,22 +4,23 @@ use Rattle.clip_merge.specs.Plan.{IsRun}
 use Rattle.clip_registry.specs.RegistryState.{IsWhole, RegistryState}
 use Rattle.clip_registry.specs.Steps.State.{state_or_beginning}
 use Rattle.clip_registry.proofs.Whole.{whole_beginning}
+use Rattle.clip_registry.proofs.registrar.Registrar.begin_turn.Given.{Over}
 use Rattle.clip_registry.proofs.registrar.Registrar.begin_turn.Goals as goal
 use Rattle.clip_registry.proofs.registrar.Registrar.begin_turn.Goals.{After-plan_turn}
 
 -- the segments that are planned are those of the registry
-planned : (c : After-plan_turn) → map arc_value c.deref-2.result.now ≡ c.args.self.now.segments
-planned c =
+planned : (g : Over) (c : After-plan_turn g) → map arc_value c.deref-2.result.now ≡ c.args.self.now.segments
+planned g c =
     ap (map arc_value) c.deref-2.ensures.value
     ∙ ap (λ (s : RegistryState). s.segments) (c.behind-state.view_is ∙ c.deref.ensures
     ∙ ap (state_or_beginning c.self.inside.keeps) (sym c.in-Some.is) ∙ c.self.view_is)
 
 pub returns-in_default-clause-whole : goal.returns-in_default-clause-whole
-returns-in_default-clause-whole c =
+returns-in_default-clause-whole g c =
     subst IsWhole (ap (state_or_beginning c.self.inside.keeps) (sym c.in_default.is)
     ∙ c.self.view_is) (whole_beginning c.self.inside.keeps)
 
 pub returns-in-None-clause-nothing : goal.returns-in-None-clause-nothing
-returns-in-None-clause-nothing c _ first run =
+returns-in-None-clause-nothing g c _ first run =
     c.in-None.ensures.no_run refl first
-    (subst (λ ss. IsRun ss first) (sym (planned (goal.at.returns-in-None-clause-nothing c).After-plan_turn)) run)
+    (subst (λ ss. IsRun ss first) (sym (planned g (goal.at.returns-in-None-clause-nothing g c).After-plan_turn)) run)

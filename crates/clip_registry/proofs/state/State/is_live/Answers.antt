@@ -1,7 +1,7 @@
 use Rattle.std.proofs.Common.{map, sym, ap, subst, ◌∙◌}
 use Rattle.std.specs.Arc.{arc_value}
 use Rattle.std.specs.List.{Contains}
-use Rattle.clip_segment.specs.Segment.{all_entries, seqs_of}
+use Rattle.clip_indexed.specs.Segment.{all_entries, seqs_of}
 use Rattle.clip_model.specs.History.{is_live_in, replay}
 use Rattle.clip_registry.specs.RegistryState.{RegistryState}
 use Rattle.clip_registry.specs.Steps.LiveFlags.{flags_by}
@@ -10,7 +10,7 @@ use Rattle.clip_registry.proofs.LiveFlags.{live_among}
 use Rattle.clip_registry.proofs.state.State.is_live.Goals as goal
 
 pub returns : goal.returns
-returns c =
+returns g c =
     let seq = c.args.seq in
     let is = is_live_in c.self.inside.roster.registry in
     let registry = c.self.invariant.0.registry in

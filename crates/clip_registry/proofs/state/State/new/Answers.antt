@@ -13,7 +13,7 @@ use Rattle.clip_registry.proofs.Keeping.{consistent_beginning}
 use Rattle.clip_registry.proofs.state.State.new.Goals as goal
 
 pub invariant_of-result : goal.invariant_of-result
-invariant_of-result c =
+invariant_of-result g c =
     let zeros : c.in_ok-vec.field-0.items ≡ replicate MOST_CALLERS 0 =
     c.in_ok-vec.ensures.items_if_clones_equal (λ y h. h) in
     let is : record {

@@ -6,7 +6,7 @@ use Rattle.clip_registry.proofs.Keeping.{counted}
 use Rattle.clip_registry.proofs.state.State.next_entry.Goals as goal
 
 pub overflow_add-number : goal.overflow_add-number
-overflow_add-number c =
+overflow_add-number g c =
     let kept = c.self.invariant.0 in
     let place : c.args.caller - 1 < length c.self.inside.counts.items = let a = kept.callers in let b =
     c.requires.caller_from in let d = c.requires.caller_to in omega arith in

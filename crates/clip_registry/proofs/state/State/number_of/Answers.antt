@@ -11,7 +11,7 @@ use Rattle.clip_registry.proofs.state.State.number_of.Goals.{then-caller-eq0-via
 use Rattle.clip_registry.proofs.state.State.number_of.Goals.{then-caller-eq0-via-else-caller-eq0+then-caller-gt-MOST_CALLERS}
 
 pub returns-then-caller-eq0-clause-count : goal.returns-then-caller-eq0-clause-count
-returns-then-caller-eq0-clause-count c =
+returns-then-caller-eq0-clause-count g c =
     let out : (c.args.caller ≡ 0) ⊎ (MOST_CALLERS < c.args.caller) = elim c.then-caller-eq0.branch [
       | then-caller-eq0-via-then-caller-eq0 w ↦ inl (let h = w.if-caller-eq0.true in omega arith)
       | then-caller-eq0-via-else-caller-eq0+then-caller-gt-MOST_CALLERS w ↦
@@ -21,7 +21,7 @@ returns-then-caller-eq0-clause-count c =
     ∙ ap length (strangers_give_none (state_of c.self.inside).history c.args.caller c.self.invariant.0.legal out))
 
 pub overflow_cast-result : goal.overflow_cast-result
-overflow_cast-result c =
+overflow_cast-result g c =
     let kept = c.self.invariant.0 in
     let low : 0 < c.args.caller = let h = c.if-caller-eq0.false in omega arith in
     let place : c.args.caller - 1 < length c.self.inside.counts.items = let a = kept.callers in let d =

@@ -12,7 +12,7 @@ use Rattle.clip_registry.proofs.Kept.{consistent_kept}
 use Rattle.clip_registry.proofs.state.State.with_segments.Goals as goal
 
 pub invariant_of-next : goal.invariant_of-next
-invariant_of-next c =
+invariant_of-next g c =
     let segments = map arc_value c.args.segments.items in
     let counts : c.in_ok-clone-3.field-0.items ≡ c.self.inside.counts.items =
     same_from_all_zip (λ (x y : ℕ). y ≡ x) _ _ c.in_ok-clone-3.ensures.cases.0 (λ x y e. e) in

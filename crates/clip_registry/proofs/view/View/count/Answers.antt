@@ -8,6 +8,6 @@ use Rattle.clip_registry.specs.Steps.State.{state_or_beginning}
 use Rattle.clip_registry.proofs.view.View.count.Goals as goal
 
 pub returns-in-None : goal.returns-in-None
-returns-in-None c = sym (len-empty bytes_cmp Registered)
+returns-in-None g c = sym (len-empty bytes_cmp Registered)
     ∙ ap (λ (s : RegistryState). finite.len (replay s.history))
     (ap (state_or_beginning c.self.inside.keeps) (sym c.in-None.is) ∙ c.self.view_is)

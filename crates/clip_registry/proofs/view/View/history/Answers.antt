@@ -3,4 +3,4 @@ use Rattle.clip_registry.specs.RegistryState.{IsWhole}
 use Rattle.clip_registry.proofs.view.View.history.Goals as goal
 
 pub returns-clause-whole : goal.returns-clause-whole
-returns-clause-whole c = subst IsWhole c.self.view_is (c.history_of.ensures.whole c.self.inside.keeps)
+returns-clause-whole g c = subst IsWhole c.self.view_is (c.history_of.ensures.whole c.self.inside.keeps)

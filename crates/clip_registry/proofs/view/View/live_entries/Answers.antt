@@ -4,7 +4,7 @@ use Rattle.std.proofs.lemmas.List.{length-map, take_all}
 use Rattle.std.proofs.lemmas.List.Elements.{filter-append}
 use Rattle.std.proofs.lemmas.Option.{same_Some, slice_get-get_or}
 use Rattle.std.specs.Arc.{arc_value}
-use Rattle.clip_segment.specs.Segment.{IsRising, all_entries}
+use Rattle.clip_indexed.specs.Segment.{IsRising, all_entries}
 use Rattle.clip_model.specs.History.{Registered, is_live}
 use Rattle.clip_registry.specs.Steps.LiveFlags.{flags_of}
 use Rattle.clip_registry.proofs.LiveFlags.{segment_at}
@@ -13,7 +13,7 @@ use Rattle.clip_registry.proofs.Whole.{entries_more}
 use Rattle.clip_registry.proofs.view.View.live_entries.Goals as goal
 
 pub loop-place-preserved : goal.loop-place-preserved
-loop-place-preserved c =
+loop-place-preserved g c =
     let state = c.args.self.now in
     let is = is_live state.history in
     let live = λ (r : Registered). is r.seq in
@@ -35,7 +35,7 @@ loop-place-preserved c =
     c.segment-item.is) ∙ filter-append live before es)
 
 pub returns-clause-rising : goal.returns-clause-rising
-returns-clause-rising c =
+returns-clause-rising g c =
     let state = c.args.self.now in
     let live = λ (r : Registered). is_live state.history r.seq in
     let items = c.segments-segment-items.result.now in

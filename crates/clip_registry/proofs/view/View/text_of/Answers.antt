@@ -9,7 +9,7 @@ use Rattle.clip_registry.specs.Steps.State.{state_or_beginning}
 use Rattle.clip_registry.proofs.view.View.text_of.Goals as goal
 
 pub returns-in-None : goal.returns-in-None
-returns-in-None c =
+returns-in-None g c =
     ap (option_map (λ (r : Registered). r.standing.text)) (sym (get-empty {X = Registered} bytes_cmp c.args.id.now))
     ∙ ap (λ (s : RegistryState).
     option_map (λ (r : Registered). r.standing.text) (finite.get (replay s.history) c.args.id.now))

@@ -3,9 +3,9 @@ use Rattle.std.proofs.lemmas.Result.{IfOk-weaker}
 use Rattle.clip_extract.specs.Extraction.{query_keys, second_keys}
 use Rattle.clip_plan.specs.Plan.{decoded}
 use Rattle.clip_segment.specs.Index.{query_positions_with}
-use Rattle.clip_segment.specs.Selecting.{kept_of}
+use Rattle.clip_indexed.specs.Selecting.{kept_of}
 use Rattle.clip_segment.specs.Steps.Parts.{AreFrom, taken}
-use Rattle.clip_segment.proofs.Flagged.{kept_few}
+use Rattle.clip_indexed.proofs.Flagged.{kept_few}
 use Rattle.clip_segment.proofs.index.Index.select.Goals as goal
 
 pub returns : goal.returns

@@ -1,7 +1,7 @@
 use Rattle.std.proofs.Common.{◌≡◌, ◌++◌, length, map, vec_items}
 use Rattle.std.specs.Arc.{arc_value}
 use Rattle.clip_segment.specs.Segment.{heard_of, ids_of}
-use Rattle.clip_segment.specs.Selecting.{kept_of}
+use Rattle.clip_indexed.specs.Selecting.{kept_of}
 use Rattle.clip_segment.proofs.labels.Labels.kept.Given as goal
 
 abbrev pub invariant-loop-segment : goal.invariant-loop-segment

@@ -1,5 +1,5 @@
 use Rattle.std.proofs.Common.{◌≡◌, ◌++◌, drop}
-use Rattle.clip_segment.specs.Selecting.{flagged}
+use Rattle.clip_indexed.specs.Selecting.{flagged}
 use Rattle.clip_segment.proofs.packed_texts.PackedTexts.with_flagged.Given as goal
 
 abbrev pub invariant-loop-place : goal.invariant-loop-place

@@ -2,8 +2,8 @@ use Rattle.std.proofs.Common.{ℕ, ◌++◌, [], ◌∷◌, map, take, sym, ap, 
 use Rattle.std.proofs.lemmas.List.{map_more, map_push}
 use Rattle.std.specs.Arc.{arc_value}
 use Rattle.clip_model.specs.History.{Registered}
-use Rattle.clip_segment.specs.Segment.{seqs_of}
-use Rattle.clip_segment.proofs.segment.seqs_of.Goals as goal
+use Rattle.clip_indexed.specs.Segment.{seqs_of}
+use Rattle.clip_indexed.proofs.segment.seqs_of.Goals as goal
 
 pub loop-entry-preserved : goal.loop-entry-preserved
 loop-entry-preserved c =

@@ -1,7 +1,7 @@
 use Rattle.std.proofs.Common.{◌≡◌, ◌++◌, length, map}
 use Rattle.std.specs.Arc.{arc_value}
-use Rattle.clip_segment.specs.Selecting.{flagged}
-use Rattle.clip_segment.proofs.selecting.add_flagged.Given as goal
+use Rattle.clip_indexed.specs.Selecting.{flagged}
+use Rattle.clip_indexed.proofs.selecting.add_flagged.Given as goal
 
 abbrev pub invariant-loop-flag : goal.invariant-loop-flag
 invariant-loop-flag l =

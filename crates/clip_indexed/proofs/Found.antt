@@ -7,7 +7,7 @@ use Rattle.std.proofs.lemmas.List.{get_or-map, length-map}
 use Rattle.std.proofs.lemmas.List.Sorted.{searched}
 use Rattle.std.proofs.lemmas.Option.{slice_get-get_or, slice_get_within, get_or_from_slice_get}
 use Rattle.clip_model.specs.History.{Registered}
-use Rattle.clip_segment.specs.Segment.{IsRising, seqs_of}
+use Rattle.clip_indexed.specs.Segment.{IsRising, seqs_of}
 
 -- the seqs of entries that rise
 pub seqs_sorted : (es : List Registered) → IsRising es → (i j : ℕ) → i ≤ j → j < length (seqs_of es)

@@ -1,0 +1,4 @@
+pub mod Flagged
+pub mod Found
+pub mod Indexes
+pub mod Sent

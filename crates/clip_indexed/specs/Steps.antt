@@ -1,0 +1,2 @@
+-- Private fields as contracts see them; no public clause cites it.
+pub mod SegmentView

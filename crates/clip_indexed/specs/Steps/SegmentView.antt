@@ -1,0 +1,18 @@
+-- A segment as contracts see it, and what holds of each.
+use Rattle.std.specs.Prelude.{◌≡◌, ◌≤◌, List, map, length}
+use Rattle.std.specs.Arc.{arc_value}
+use Rattle.clip_model.specs.History.{Registered}
+use Rattle.clip_indexed.specs.Segment.{IsRising, seqs_of}
+use Rattle.clip_indexed.specs.declared.segment.TheConstants.{MOST_POSITIONS}
+use Rattle.clip_indexed.specs.declared.segment.Segment.TheInside.{Inside}
+
+-- the entries of a segment
+abbrev pub entries_of : {I : Type 0} → Inside I → List Registered
+entries_of s = map arc_value s.entries.items
+
+-- The seqs rise, there are not too many entries, their seqs are kept beside them, and the index is over them.
+pub record IsSegment {I : Type 0} (is_of : List Registered → I → Type 0) (s : Inside I) : Type 0 where
+  pub rising : IsRising (entries_of s)
+  pub short : length s.entries.items ≤ MOST_POSITIONS
+  pub seqs : s.seqs.items ≡ seqs_of (entries_of s)
+  pub index : is_of (entries_of s) s.index

@@ -1,9 +1,0 @@
-use Rattle.std.proofs.Common.{map, take}
-use Rattle.std.specs.Arc.{arc_value}
-use Rattle.clip_segment.specs.Selecting.{AreIndexesOf}
-use Rattle.clip_segment.specs.Segment.{trees_of}
-use Rattle.clip_segment.proofs.selecting.indexes_of.Given as goal
-
-abbrev pub invariant-loop-segment : goal.invariant-loop-segment
-invariant-loop-segment l =
-    AreIndexesOf (map trees_of (map arc_value (take l.segment-index l.segments))) (map (λ i. i.now) l.indexes.items)
