@@ -5,7 +5,7 @@ use Rattle.std.proofs.lemmas.List.{take-append-drop, take-take, take-append-le}
 use Rattle.std.proofs.lemmas.List.Elements.{All-nil, All-cons, All-head, All-tail, All-append, All-push, All-weaker}
 use Rattle.std.proofs.lemmas.List.Elements.{All-take, All-drop, All-map, All-filter}
 use Rattle.std.specs.List.{All}
-use Rattle.clip_segment.specs.Segment.{all_entries}
+use Rattle.clip_indexed.specs.Segment.{all_entries}
 use Rattle.clip_model.specs.History.{History, Command, Register, Delete, Clear, Registered, listed, is_live, replay}
 use Rattle.clip_model.specs.History.{after_command, is_live_in, next_entry}
 use Rattle.clip_model.proofs.Dead.{live_before}

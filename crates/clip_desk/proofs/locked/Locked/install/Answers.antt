@@ -1,5 +1,5 @@
 use Rattle.std.proofs.Common.{rules, ◌≡◌, ◌∙◌, Ok, ap, filter, subst, sym}
-use Rattle.clip_segment.specs.Segment.{all_entries}
+use Rattle.clip_indexed.specs.Segment.{all_entries}
 use Rattle.clip_registry.specs.RegistryState.{RegistryState}
 use Rattle.clip_registry.specs.Merging.{IsStale, Merge}
 use Rattle.clip_desk.specs.Purges.{IsPurgedAt}
