@@ -33,10 +33,11 @@ seen_grown seen before after c command p is =
     prefix_trans seen before after p (next_entry before c command ∷ [], sym is)
 
 -- after a command of one of its callers the history has these callers
-pub by_grown : (n c : ℕ) (before after : History) (command : Command) → IsBy n before
-    → after ≡ with_command before c command → 0 < c → c ≤ n → IsBy n after
-by_grown n c before after command by is low high =
-    subst (IsBy n) (sym is) (by_more n before (next_entry before c command) by low high)
+pub by_grown : (n c : ℕ) (before after : RegistryState) (command : Command) → after ≡ state_after before c command
+    → 0 < c → c ≤ n → IsBy n before.history → IsBy n after.history
+by_grown n c before after command is low high by =
+    subst (λ (s : RegistryState). IsBy n s.history) (sym is)
+    (by_more n before.history (next_entry before.history c command) by low high)
 
 -- the chronicle, once it has followed the registrar that took the command
 pub followed : (registrar next : RegistryState) (seen after : History) (c c' : ℕ) (command : Command)

@@ -1,5 +1,5 @@
 -- Each step of an end keeps the rule.
-use Rattle.std.proofs.Common.{◌≡◌, ℕ, ◌≢◌, List, [], ◌∷◌, ◌++◌, fold, set, refl, ap, ◌∙◌, subst, ⊎_elim, Option}
+use Rattle.std.proofs.Common.{◌≡◌, ℕ, ◌≢◌, List, [], ◌∷◌, ◌++◌, fold, set, refl, ◌∙◌, subst, ⊎_elim, Option}
 use Rattle.std.proofs.Common.{None, Some, Result, Ok, Err, MatchResult}
 use mathlib.Core.Option.{some}
 use lib.ListN.{get_elem?}
@@ -41,7 +41,8 @@ forks seat v x views h at j u e = ⊎_elim
     (λ (t : v ≡ u). subst (Fits x) t (h seat v at))
     (at_snoc (set views seat v) v u j e)
 
-pub merges : (seat : ℕ) (v : Option PublishedIs) (other : ℕ) (w : Option PublishedIs) → Merges Keeps seat v other w w None
+pub merges : (seat : ℕ) (v : Option PublishedIs) (other : ℕ) (w : Option PublishedIs)
+    → Merges Keeps seat v other w w None
 merges seat v other w x views h at apart there =
     let theirs : Fits x w = ⊎_elim
     (λ (t : (other ≡ seat) × (w ≡ w)). absurd (apart t.0))

@@ -7,4 +7,5 @@ pub mod Histories
 pub mod Purges
 pub mod Seating
 pub mod Sent
+pub mod Settling
 pub mod Telling

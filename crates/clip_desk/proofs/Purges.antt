@@ -5,7 +5,7 @@ use Rattle.std.proofs.lemmas.List.{take-append-drop, take-take, take-append-le}
 use Rattle.std.proofs.lemmas.List.Elements.{All-nil, All-cons, All-head, All-tail, All-append, All-push, All-weaker}
 use Rattle.std.proofs.lemmas.List.Elements.{All-take, All-drop, All-map, All-filter}
 use Rattle.std.specs.List.{All}
-use Rattle.clip_segment.specs.Segment.{all_entries}
+use Rattle.clip_indexed.specs.Segment.{all_entries}
 use Rattle.clip_model.specs.History.{History, Command, Register, Delete, Clear, Registered, listed, is_live, replay}
 use Rattle.clip_model.specs.History.{after_command, is_live_in, next_entry}
 use Rattle.clip_model.proofs.Dead.{live_before}
@@ -42,13 +42,6 @@ purged_before state n m le is = (
   All-weaker (All (WasNotDead (take m state.history))) (All (WasNotDead (take n state.history)))
       (λ segment all. All-weaker (WasNotDead (take m state.history)) (WasNotDead (take n state.history))
       (λ r live. not_dead_before state.history n m le r live) segment all) state.segments is.1,
-)
-
--- no segment has no dead entry
-pub purged_none : (state : RegistryState) → state.segments ≡ [] → IsPurgedAt state 0
-purged_none state none = (
-  omega arith,
-  subst (All (All (WasNotDead (take 0 state.history)))) (sym none) (All-nil (All (WasNotDead (take 0 state.history)))),
 )
 
 -- ---- at a purge
@@ -93,15 +86,20 @@ segments_stay h n segments (Register (s ∷ ss)) all =
 segments_stay h n segments (Delete ids) all = all
 segments_stay h n segments Clear all = All-nil (All (WasNotDead (take n h)))
 
-pub purged_after : (state : RegistryState) (caller : ℕ) (command : Command) (n : ℕ) → IsPurgedAt state n
+purged_still : (state : RegistryState) (caller : ℕ) (command : Command) (n : ℕ) → IsPurgedAt state n
     → IsPurgedAt (state_after state caller command) n
-purged_after state caller command n is =
+purged_still state caller command n is =
     let h = state.history in
     let e = next_entry h caller command in (
       omega (arith, is.0, length-append h (e ∷ [])),
       subst (λ (front : History). All (All (WasNotDead front)) (state_after state caller command).segments)
           (sym (take-append-le n h (e ∷ []) is.0)) (segments_stay h n state.segments command is.1),
     )
+
+pub purged_after : (before after : RegistryState) (caller : ℕ) (command : Command) (n : ℕ)
+    → after ≡ state_after before caller command → IsPurgedAt before n → IsPurgedAt after n
+purged_after before after caller command n is was =
+    subst (λ (s : RegistryState). IsPurgedAt s n) (sym is) (purged_still before caller command n was)
 
 -- ---- after a merge
 

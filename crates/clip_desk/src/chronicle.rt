@@ -14,6 +14,7 @@ ghost use Rattle.clip_model.specs.declared.limits.TheConstants.{MOST_ENTRIES};
 ghost use Rattle.clip_standing.specs.Command.{entry_of};
 
 use crate::rights::{Right, Rights};
+use clip_indexed::Index;
 use clip_registry::Registrar;
 use clip_standing::HistoryEntry;
 use logbook::{Gain, Offer, Plain, Play, Rule, Seen, Start, Word};
@@ -181,7 +182,12 @@ impl SeenHistory {
 
     /// Adds the newest command of a registrar to all that was seen, by the right of its caller, and says whether it
     /// did. Constant time.
-    pub(crate) fn follow(&mut self, head: &Head, registrar: &Registrar, right: &mut Right) -> bool
+    pub(crate) fn follow<I: Index>(
+        &mut self,
+        head: &Head,
+        registrar: &Registrar<I>,
+        right: &mut Right,
+    ) -> bool
         requires head { head.now ≡ head_of self.old.seen.book }
         requires one_more { (e : model.HistoryEntry) × (registrar.now.history ≡ self.old.seen.log ++ e ∷ [])
             × (e.caller ≡ right.old.caller) }

@@ -15,20 +15,21 @@ use crate::parts::DeskParts;
 use crate::refused::Refused;
 use crate::seat::{Receipt, Seat};
 use crate::update_listener::UpdateListener;
+use clip_indexed::Index;
 use clip_registry::Registrar;
 use clip_standing::Command;
 use std::marker::Model;
 use std::sync::{Mutex, MutexGuard, Wait};
 
-/// A registry that callers share, and the listeners that hear of its changes. It has no `Drop`, as a writer's end can't
-/// be dropped: end it by `close` or `end`.
-pub struct Desk<N: DeskName, L: UpdateListener> {
-    pub(crate) locked: Mutex<Locked<N, L>>,
+/// A registry that callers share, each of whose segments keeps an index over its entries, and the listeners that hear
+/// of its changes. It has no `Drop`, as a writer's end can't be dropped: end it by `close` or `end`.
+pub struct Desk<N: DeskName, I: Index, L: UpdateListener> {
+    pub(crate) locked: Mutex<Locked<N, I, L>>,
     pub(crate) tag: u64,
     callers: u32,
 }
 
-impl<N: DeskName, L: UpdateListener> Model for Desk<N, L> {
+impl<N: DeskName, I: Index, L: UpdateListener> Model for Desk<N, I, L> {
     ghost use Rattle.std.specs.Prelude.{◌≡◌};
     ghost use Rattle.clip_desk.specs.Seats.{DeskIs};
 
@@ -41,24 +42,24 @@ impl<N: DeskName, L: UpdateListener> Model for Desk<N, L> {
 
 /// What a desk leaves.
 #[derive(Drop)]
-pub struct Closed<L: UpdateListener> {
+pub struct Closed<I: Index, L: UpdateListener> {
     /// The registry at its end, with its history.
-    pub registrar: Registrar,
+    pub registrar: Registrar<I>,
     /// The update listeners, in order, each with its mark: whether it missed an event.
     pub updates: Vec<(L, bool)>,
 }
 
 /// What comes back from a desk that could not be closed.
-pub struct SeatMissing<N: DeskName, L: UpdateListener> {
+pub struct SeatMissing<N: DeskName, I: Index, L: UpdateListener> {
     /// The desk, which goes on.
-    pub desk: Desk<N, L>,
+    pub desk: Desk<N, I, L>,
     /// The seats that were handed in.
-    pub seats: Vec<Seat>,
+    pub seats: Vec<Seat<I>>,
 }
 
-impl<N: DeskName, L: UpdateListener> Desk<N, L> {
+impl<N: DeskName, I: Index, L: UpdateListener> Desk<N, I, L> {
     /// A desk, and the seats of callers 1, 2, .. Its name says what its listeners had heard. Constant time.
-    pub fn open(parts: DeskParts<L>) -> (Desk<N, L>, Vec<Seat>)
+    pub fn open(parts: DeskParts<I, L>) -> (Desk<N, I, L>, Vec<Seat<I>>)
         requires { (parts.book ≡ N.book) × (parts.callers ≡ N.callers) × (N.heard_before ≡ all_heard parts.updates)
             × (parts.keeps ≡ N.keeps) }
         ensures desk { (result.0.tag ≡ parts.tag) × (result.0.callers ≡ parts.callers) }
@@ -101,7 +102,7 @@ impl<N: DeskName, L: UpdateListener> Desk<N, L> {
     pub fn commit<R: Wait>(
         &self,
         rt: &R,
-        seat: &mut Seat,
+        seat: &mut Seat<I>,
         command: Command,
     ) -> Result<Receipt, (Command, Refused)>
         requires desk { seat.old.tag ≡ self.now.tag → IsSeatOf N.book N.callers seat.old }
@@ -142,7 +143,11 @@ impl<N: DeskName, L: UpdateListener> Desk<N, L> {
     /// missing, one is of another tag, or a purge was with none of these, and then desk and seats come back. It may
     /// wait for readers that look. It costs a search among the seats for each caller, and that of
     /// `Registrar::number_of` for each seat.
-    pub fn close<R: Wait>(self, rt: &R, seats: Vec<Seat>) -> Result<Closed<L>, SeatMissing<N, L>>
+    pub fn close<R: Wait>(
+        self,
+        rt: &R,
+        seats: Vec<Seat<I>>,
+    ) -> Result<Closed<I, L>, SeatMissing<N, I, L>>
         requires { (k : ℕ) (s : SeatIs) → slice_get seats.items k ≡ Some s → s.tag ≡ self.tag
             → IsSeatOf N.book N.callers s }
         ensures legal { IfOk result (λ c. IsLegal c.registrar.history × IsBy self.callers c.registrar.history) }
@@ -185,9 +190,9 @@ impl<N: DeskName, L: UpdateListener> Desk<N, L> {
 }
 
 /// Whether each seat is of this tag, and its numbers agree.
-fn all_agree<N: DeskName, L: UpdateListener>(
-    locked: &Locked<N, L>,
-    seats: &[Seat],
+fn all_agree<N: DeskName, I: Index, L: UpdateListener>(
+    locked: &Locked<N, I, L>,
+    seats: &[Seat<I>],
     tag: u64,
 ) -> bool
     requires { (k : ℕ) (s : SeatIs) → slice_get seats.now k ≡ Some s → s.tag ≡ tag → IsSeatOf N.book N.callers s }
@@ -203,7 +208,7 @@ fn all_agree<N: DeskName, L: UpdateListener>(
 }
 
 /// Whether these seats' purges are as many as were told. A step for each seat.
-fn are_of_all_purges(seats: &[Seat], told: u64) -> bool
+fn are_of_all_purges<I: Index>(seats: &[Seat<I>], told: u64) -> bool
     ensures { IsTrue result → purges_with seats.now ≡ told }
 {
     let mut left = told;
@@ -217,7 +222,7 @@ fn are_of_all_purges(seats: &[Seat], told: u64) -> bool
 }
 
 /// Whether each caller has a seat among these.
-fn has_all(seats: &[Seat], callers: u32) -> bool
+fn has_all<I: Index>(seats: &[Seat<I>], callers: u32) -> bool
     ensures { IsTrue result → (caller : ℕ) → 0 < caller → caller ≤ callers → (k : ℕ) × (s : SeatIs)
         × (slice_get seats.now k ≡ Some s) × (s.caller ≡ caller) }
 {
@@ -230,7 +235,7 @@ fn has_all(seats: &[Seat], callers: u32) -> bool
 }
 
 /// Whether the caller has a seat among these.
-fn has_one(seats: &[Seat], caller: u32) -> bool
+fn has_one<I: Index>(seats: &[Seat<I>], caller: u32) -> bool
     ensures { IsTrue result → (k : ℕ) × (s : SeatIs) × (slice_get seats.now k ≡ Some s) × (s.caller ≡ caller) }
 {
     for seat in seats {

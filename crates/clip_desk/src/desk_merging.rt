@@ -6,6 +6,7 @@ use crate::locked::DeskName;
 use crate::refused::Refused;
 use crate::seat::Seat;
 use crate::update_listener::UpdateListener;
+use clip_indexed::Index;
 use clip_registry::{Installed, MergeJob, MergeTurn, Merged};
 use clip_words::NoMemory;
 use crossbeam_channel::Receiver;
@@ -31,13 +32,13 @@ fn take_standing<R: Wait>(rt: &R, nudges: &Receiver<Nudge>) -> bool {
     false
 }
 
-impl<N: DeskName, L: UpdateListener> Desk<N, L> {
+impl<N: DeskName, I: Index, L: UpdateListener> Desk<N, I, L> {
     /// Leaves each segment with just its live entries, takes the empty ones away, publishes that, and tells the
     /// listeners: `Foreign` for a seat of another tag, and `NoMemory` where an allocation failed, with nothing changed
     /// and nothing told. The seat counts the purge, and keeps how long the history was then, which is no shorter than
     /// what it has seen: a look with it shows no entry that was dead at that place. It may wait for other callers'
     /// commits, and for readers that look. It costs that of `Registrar::purge`, and what each listener takes.
-    pub fn purge<R: Wait>(&self, rt: &R, seat: &mut Seat) -> Result<(), Refused>
+    pub fn purge<R: Wait>(&self, rt: &R, seat: &mut Seat<I>) -> Result<(), Refused>
         ensures purged { OnOk result ((length seat.old.seen ≤ seat.new.purged_at)
             × (length seat.old.mine ≤ seat.new.purged_at)) }
         ensures counted { OnOk result (seat.new.purges ≡ seat.old.purges + 1) }
@@ -58,7 +59,7 @@ impl<N: DeskName, L: UpdateListener> Desk<N, L> {
     }
 
     /// A job over the segments that a merge turn makes one, where there are some.
-    fn begin_turn<R: Wait>(&self, rt: &R) -> Result<Option<MergeJob>, NoMemory> {
+    fn begin_turn<R: Wait>(&self, rt: &R) -> Result<Option<MergeJob<I>>, NoMemory> {
         let guard = self.locked.lock(rt);
         let job = guard.begin_turn();
         MutexGuard::unlock(guard);
@@ -66,7 +67,7 @@ impl<N: DeskName, L: UpdateListener> Desk<N, L> {
     }
 
     /// Installs a merge, and publishes it.
-    fn install<R: Wait>(&self, rt: &R, merged: Merged) -> Result<Installed, NoMemory> {
+    fn install<R: Wait>(&self, rt: &R, merged: Merged<I>) -> Result<Installed, NoMemory> {
         let mut guard = self.locked.lock(rt);
         let answer = guard.install(rt, merged);
         MutexGuard::unlock(guard);

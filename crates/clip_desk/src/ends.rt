@@ -8,13 +8,14 @@ ghost use Rattle.clip_desk.specs.Purges.{IsPurgedAt};
 
 use crate::chronicle::SeenHistory;
 use crate::published::{Published, ReaderEnd, Sight, WriterEnd};
+use clip_indexed::Index;
 use clip_registry::View;
 use core::mem::replace_with;
 use std::alloc::AllocError;
 use std::sync::Wait;
 
 /// A copy of what is published, or `AllocError` where a count of holders is at its end. It waits for nobody.
-fn read(end: ReaderEnd) -> (ReaderEnd, Result<Published, AllocError>)
+fn read<I: Index>(end: ReaderEnd<I>) -> (ReaderEnd<I>, Result<Published<I>, AllocError>)
     ensures read { IfOk result.1 (λ p. (view result.0.place ≡ Some p) × Fits p (view end.place)) }
     ensures kept { StaysOf (view end.place) (view result.0.place) }
 {
@@ -29,7 +30,7 @@ fn read(end: ReaderEnd) -> (ReaderEnd, Result<Published, AllocError>)
 
 /// A copy of what is published, or `AllocError` where a count of holders is at its end. It goes on from what the end
 /// saw before. It waits for nobody. Constant time.
-pub(crate) fn read_here(end: &mut ReaderEnd) -> Result<Published, AllocError>
+pub(crate) fn read_here<I: Index>(end: &mut ReaderEnd<I>) -> Result<Published<I>, AllocError>
     ensures read { IfOk result (λ p. (view end.new.place ≡ Some p) × Fits p (view end.old.place)) }
     ensures kept { StaysOf (view end.old.place) (view end.new.place) }
 {
@@ -38,11 +39,11 @@ pub(crate) fn read_here(end: &mut ReaderEnd) -> Result<Published, AllocError>
 
 /// Publishes a value that goes on from the one before; after an `AllocError` that one stays published. It may wait for
 /// readers that read. Constant time.
-pub(crate) fn publish<R: Wait>(
+pub(crate) fn publish<I: Index, R: Wait>(
     rt: &R,
-    writer: WriterEnd,
-    next: Published,
-) -> (WriterEnd, Result<(), AllocError>)
+    writer: WriterEnd<I>,
+    next: Published<I>,
+) -> (WriterEnd<I>, Result<(), AllocError>)
     requires { Continues writer.desk.shown.value next }
     ensures { MatchResult result.1 (λ _. (result.0.desk.shown.value ≡ next)
         × (view result.0.desk.place ≡ Some next))
@@ -57,11 +58,11 @@ pub(crate) fn publish<R: Wait>(
 }
 
 /// Publishes a copy of a value that goes on from the one before; after an `AllocError` that one stays published.
-fn publish_copy<R: Wait>(
+fn publish_copy<I: Index, R: Wait>(
     rt: &R,
-    writer: WriterEnd,
-    next: &Published,
-) -> (WriterEnd, Result<(), AllocError>)
+    writer: WriterEnd<I>,
+    next: &Published<I>,
+) -> (WriterEnd<I>, Result<(), AllocError>)
     requires { Continues writer.desk.shown.value next.now }
     ensures { MatchResult result.1 (λ _. result.0.desk.shown.value ≡ next.now)
         (λ _. result.0.desk.shown.value ≡ writer.desk.shown.value) }
@@ -74,7 +75,11 @@ fn publish_copy<R: Wait>(
 
 /// Publishes a value that goes on from the one before. Where that is refused it tries again, and so waits until a count
 /// of holders falls or memory comes; it may wait for readers that read.
-fn publish_surely<R: Wait>(rt: &R, writer: WriterEnd, next: &Published) -> WriterEnd
+fn publish_surely<I: Index, R: Wait>(
+    rt: &R,
+    writer: WriterEnd<I>,
+    next: &Published<I>,
+) -> WriterEnd<I>
     requires { Continues writer.desk.shown.value next.now }
     ensures { result.desk.shown.value ≡ next.now }
 {
@@ -91,10 +96,10 @@ fn publish_surely<R: Wait>(rt: &R, writer: WriterEnd, next: &Published) -> Write
 
 /// Publishes a view whose history is the one that was seen and goes on from the one before, and how long it was at the
 /// last purge; after an `AllocError` the one before stays published. It may wait for readers that read. Constant time.
-pub(crate) fn show<R: Wait>(
+pub(crate) fn show<I: Index, R: Wait>(
     rt: &R,
-    writer: &mut WriterEnd,
-    view: View,
+    writer: &mut WriterEnd<I>,
+    view: View<I>,
     seen_history: SeenHistory,
     purged_at: usize,
 ) -> Result<(), AllocError>
@@ -120,10 +125,10 @@ pub(crate) fn show<R: Wait>(
 
 /// Publishes a view with what was seen, as `show` does, of which the last purge is the one before, and is never
 /// refused: it tries again, and so waits until a count of holders falls or memory comes.
-pub(crate) fn show_surely<R: Wait>(
+pub(crate) fn show_surely<I: Index, R: Wait>(
     rt: &R,
-    writer: &mut WriterEnd,
-    view: View,
+    writer: &mut WriterEnd<I>,
+    view: View<I>,
     seen_history: SeenHistory,
 )
     requires log { seen_history.seen.log ≡ view.history }
@@ -147,7 +152,7 @@ pub(crate) fn show_surely<R: Wait>(
 }
 
 /// Publishes any value that goes on from the one before, and tries again where it is refused.
-fn publish_surely_here<R: Wait>(rt: &R, writer: &mut WriterEnd, next: Published)
+fn publish_surely_here<I: Index, R: Wait>(rt: &R, writer: &mut WriterEnd<I>, next: Published<I>)
     requires { Continues writer.old.desk.shown.value next }
     ensures { writer.new.desk.shown.value ≡ next }
 {
@@ -159,7 +164,11 @@ fn publish_surely_here<R: Wait>(rt: &R, writer: &mut WriterEnd, next: Published)
 }
 
 /// Publishes any value that goes on from the one before. `AllocError` where it is refused, with nothing changed.
-fn publish_here<R: Wait>(rt: &R, writer: &mut WriterEnd, next: Published) -> Result<(), AllocError>
+fn publish_here<I: Index, R: Wait>(
+    rt: &R,
+    writer: &mut WriterEnd<I>,
+    next: Published<I>,
+) -> Result<(), AllocError>
     requires { Continues writer.old.desk.shown.value next }
     ensures { MatchResult result (λ _. writer.new.desk.shown.value ≡ next)
         (λ _. writer.new.desk.shown.value ≡ writer.old.desk.shown.value) }

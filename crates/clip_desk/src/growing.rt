@@ -5,21 +5,26 @@ ghost use Rattle.clip_standing.specs.Command.{command_of, answer_of};
 ghost use Rattle.clip_registry.specs.RegistryState.{state_after};
 
 use crate::refused::Refused;
+use clip_indexed::Index;
 use clip_model::MOST_CALLERS;
 use clip_registry::{Registrar, View};
 use clip_standing::{Applied, Command, Refused as Declined};
 
 /// A registrar that has taken a command, a view of it, and the answer.
 #[derive(Drop)]
-pub struct Grown {
-    pub registrar: Registrar,
-    pub view: View,
+pub struct Grown<I: Index> {
+    pub registrar: Registrar<I>,
+    pub view: View<I>,
     pub applied: Applied,
 }
 
 /// The registry after a caller's next command, where the registrar stays as it is: `Full` where the command has no
 /// room, and `NoMemory` where an allocation failed. It costs that of `Registrar::after`.
-pub fn grow(registrar: &Registrar, caller: u32, command: &Command) -> Result<Grown, Refused>
+pub fn grow<I: Index>(
+    registrar: &Registrar<I>,
+    caller: u32,
+    command: &Command,
+) -> Result<Grown<I>, Refused>
     requires fits { IsTrue (fits (command_of command.now)) }
     requires caller { (0 < caller) × (caller ≤ MOST_CALLERS) }
     ensures registrar { IfOk result (λ n. n.registrar ≡ state_after registrar.now caller (command_of command.now)) }

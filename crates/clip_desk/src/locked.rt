@@ -14,13 +14,15 @@ use crate::chronicle::{Head, SeenHistory};
 use crate::ends::show_surely;
 use crate::events::Update;
 use crate::growing::{Grown, grow};
-use crate::published::WriterEnd;
+use crate::published::{Published, WriterEnd};
 use crate::refused::Refused;
 use crate::seat::{Receipt, Seat};
 use crate::update_listener::UpdateListener;
 use crate::update_listeners::UpdateListeners;
+use clip_indexed::Index;
 use clip_registry::Registrar;
 use clip_standing::Command;
+use left_right::Absorb;
 use std::alloc::Global;
 use std::marker::{Brand, Model, PhantomData};
 use std::sync::Wait;
@@ -57,9 +59,12 @@ impl DeskName for Brand {
 /// What a desk's lock keeps, seen as the registry, how long its history was at the last purge, how many purges were
 /// told, and what each listener has heard. What was published last is that registry too, and the listeners have heard
 /// of its history, and of just so many purges.
-pub struct Locked<N: DeskName, L: UpdateListener> {
-    pub(crate) registrar: Registrar,
-    pub(crate) writer: WriterEnd,
+pub struct Locked<N: DeskName, I: Index, L: UpdateListener>
+where
+    Published<I>: Absorb<Published<I>, State = Published<I>>,
+{
+    pub(crate) registrar: Registrar<I>,
+    pub(crate) writer: WriterEnd<I>,
     pub(crate) head: Head,
     pub(crate) seen_history: SeenHistory,
     pub(crate) updates: UpdateListeners<L>,
@@ -68,7 +73,10 @@ pub struct Locked<N: DeskName, L: UpdateListener> {
     of: PhantomData<N>,
 }
 
-impl<N: DeskName, L: UpdateListener> Model for Locked<N, L> {
+impl<N: DeskName, I: Index, L: UpdateListener> Model for Locked<N, I, L>
+where
+    Published<I>: Absorb<Published<I>, State = Published<I>>,
+{
     ghost use Rattle.clip_desk.specs.Updates.{AllFollow};
     ghost use Rattle.clip_desk.specs.Locked.{LockedIs, locked_code, IsSettled};
 
@@ -88,9 +96,9 @@ impl<N: DeskName, L: UpdateListener> Model for Locked<N, L> {
 }
 
 /// Tells the listeners of the last entry of a registry, where there is one.
-fn tell_last<L: UpdateListener>(
+fn tell_last<I: Index, L: UpdateListener>(
     alloc: Global,
-    registrar: &Registrar,
+    registrar: &Registrar<I>,
     updates: &mut UpdateListeners<L>,
 )
     ensures { (before : History) (e : HistoryEntry) → registrar.now.history ≡ before ++ e ∷ []
@@ -101,16 +109,16 @@ fn tell_last<L: UpdateListener>(
     }
 }
 
-impl<N: DeskName, L: UpdateListener> Locked<N, L> {
+impl<N: DeskName, I: Index, L: UpdateListener> Locked<N, I, L> {
     /// The lock's content of a desk that begins. Constant time.
     pub(crate) fn new(
-        registrar: Registrar,
-        writer: WriterEnd,
+        registrar: Registrar<I>,
+        writer: WriterEnd<I>,
         head: Head,
         seen_history: SeenHistory,
         updates: UpdateListeners<L>,
         alloc: Global,
-    ) -> Locked<N, L>
+    ) -> Locked<N, I, L>
         requires settled { IsSettled N.book N.callers N.keeps registrar head seen_history writer.desk.shown.value }
         requires follow { AllFollow N.heard_before registrar.history 0 updates }
         ensures { result ≡ record {
@@ -140,7 +148,7 @@ impl<N: DeskName, L: UpdateListener> Locked<N, L> {
     pub fn commit<R: Wait>(
         &mut self,
         rt: &R,
-        seat: &mut Seat,
+        seat: &mut Seat<I>,
         command: Command,
     ) -> Result<Receipt, (Command, Refused)>
         requires desk { IsSeatOf N.book N.callers seat.old }
@@ -206,7 +214,7 @@ impl<N: DeskName, L: UpdateListener> Locked<N, L> {
 
     /// Tells the listeners of a purge with a seat, and counts it here and there; the seat keeps how long the history
     /// was. Cost: what each listener takes.
-    pub(crate) fn tell_purge(&mut self, seat: &mut Seat, count: usize)
+    pub(crate) fn tell_purge(&mut self, seat: &mut Seat<I>, count: usize)
         requires room { (self.old.purges + 1 < 2 ^ 64) × (seat.old.purges + 1 < 2 ^ 64) }
         ensures told { AreTold Purged self.old.updates self.new.updates }
         ensures locked { self.new ≡ record self.old { purges = self.old.purges + 1; updates = self.new.updates } }
@@ -218,7 +226,7 @@ impl<N: DeskName, L: UpdateListener> Locked<N, L> {
     }
 
     /// Whether two numbers agree at a seat, and it is of this tag. It costs that of `Registrar::number_of`.
-    pub(crate) fn agrees(&self, seat: &Seat, tag: u64) -> bool
+    pub(crate) fn agrees(&self, seat: &Seat<I>, tag: u64) -> bool
         requires { seat.now.tag ≡ tag → IsSeatOf N.book N.callers seat.now }
         ensures { IsTrue result → (seat.now.tag ≡ tag) × IsPrefix seat.now.seen self.now.registry.history
             × (own self.now.registry.history seat.now.caller ≡ seat.now.mine) }
@@ -230,7 +238,7 @@ impl<N: DeskName, L: UpdateListener> Locked<N, L> {
     }
 
     /// Ends the writer, and gives the registrar, and the listeners with their marks. It may wait for readers that look.
-    pub(crate) fn end<R: Wait>(self, rt: &R) -> (Registrar, Vec<(L, bool)>)
+    pub(crate) fn end<R: Wait>(self, rt: &R) -> (Registrar<I>, Vec<(L, bool)>)
         ensures same { result.0 ≡ self.registry }
         ensures legal { IsLegal result.0.history × IsBy N.callers result.0.history }
         ensures keeps { result.0.keeps ≡ N.keeps }

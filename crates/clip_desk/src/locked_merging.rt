@@ -9,17 +9,18 @@ use crate::ends::show;
 use crate::locked::{DeskName, Locked};
 use crate::seat::Seat;
 use crate::update_listener::UpdateListener;
+use clip_indexed::Index;
 use clip_registry::{Installed, MergeJob, Merged, Registrar};
 use clip_words::NoMemory;
 use std::sync::Wait;
 
-impl<N: DeskName, L: UpdateListener> Locked<N, L> {
+impl<N: DeskName, I: Index, L: UpdateListener> Locked<N, I, L> {
     /// Publishes a registry of the same history, and keeps it, with how long the history was at its last purge.
     /// `NoMemory` where an allocation failed, with nothing changed. It may wait for readers that look.
     fn put<R: Wait>(
         &mut self,
         rt: &R,
-        registrar: Registrar,
+        registrar: Registrar<I>,
         purged_at: usize,
     ) -> Result<(), NoMemory>
         requires same { (registrar.history ≡ self.old.registry.history)
@@ -39,7 +40,7 @@ impl<N: DeskName, L: UpdateListener> Locked<N, L> {
     /// listeners; the purge is counted here and at the seat, which keeps how long the history was. The history is kept,
     /// and so is what is registered. `NoMemory` where an allocation failed, with nothing changed and nothing told. It
     /// may wait for readers that look, and costs that of `Registrar::purge` and what each listener takes.
-    pub fn purge<R: Wait>(&mut self, rt: &R, seat: &mut Seat) -> Result<(), NoMemory>
+    pub fn purge<R: Wait>(&mut self, rt: &R, seat: &mut Seat<I>) -> Result<(), NoMemory>
         ensures purged { OnOk result (self.new.registry ≡ purged self.old.registry) }
         ensures purged_at { OnOk result ((self.new.purged_at ≡ length self.old.registry.history)
             × (seat.new.purged_at ≡ length self.old.registry.history)) }
@@ -68,7 +69,7 @@ impl<N: DeskName, L: UpdateListener> Locked<N, L> {
     /// no such four, over all segments from the oldest on behind which one has a higher level. `None` where there is
     /// none either; then segments are few: three at most for each level up to that of all their entries together.
     /// `NoMemory` where an allocation failed. It costs that of `Registrar::begin_turn`.
-    pub fn begin_turn(&self) -> Result<Option<MergeJob>, NoMemory>
+    pub fn begin_turn(&self) -> Result<Option<MergeJob<I>>, NoMemory>
         ensures begun { IfOk result (λ job. IfSome job (IsTurnBegun self.now.registry)) }
         ensures nothing { result ≡ Ok None → (first : ℕ) → IsRun self.now.registry.segments first → ⊥ }
         ensures few { result ≡ Ok None → AreFew self.now.registry.segments }
@@ -79,7 +80,7 @@ impl<N: DeskName, L: UpdateListener> Locked<N, L> {
     /// Installs a merge, wherever it was begun, and publishes the registry with it; a stale one changes and publishes
     /// nothing. The history is kept, and so is what is registered. `NoMemory` where an allocation failed, with nothing
     /// changed and the merge dropped. It may wait for readers that look, and costs that of `Registrar::install`.
-    pub fn install<R: Wait>(&mut self, rt: &R, merged: Merged) -> Result<Installed, NoMemory>
+    pub fn install<R: Wait>(&mut self, rt: &R, merged: Merged<I>) -> Result<Installed, NoMemory>
         ensures done { result ≡ Ok Installed.Done → IsInstalled self.old.registry self.new.registry merged }
         ensures stale { result ≡ Ok Installed.Stale → IsStale self.old.registry merged }
         ensures quiet { self.new.updates ≡ self.old.updates }

@@ -14,28 +14,36 @@ use crate::rights::{Right, Rights};
 use crate::seat::Seat;
 use crate::update_listener::UpdateListener;
 use crate::update_listeners::UpdateListeners;
+use clip_indexed::Index;
 use clip_model::MOST_CALLERS;
 use clip_registry::Registrar;
 use clip_words::NoMemory;
+use left_right::Absorb;
 use left_right::writer::Writer;
 use std::alloc::Global;
 use std::marker::Model;
 use std::sync::Wait;
 
 /// All that a desk is made of, with its seats and its listeners. It has no `Drop`: hand it to `Desk::open`.
-pub struct DeskParts<L: UpdateListener> {
-    pub(crate) registrar: Registrar,
-    pub(crate) writer: WriterEnd,
+pub struct DeskParts<I: Index, L: UpdateListener>
+where
+    Published<I>: Absorb<Published<I>, State = Published<I>>,
+{
+    pub(crate) registrar: Registrar<I>,
+    pub(crate) writer: WriterEnd<I>,
     pub(crate) head: Head,
     pub(crate) seen_history: SeenHistory,
-    pub(crate) seats: Vec<Seat>,
+    pub(crate) seats: Vec<Seat<I>>,
     pub(crate) updates: UpdateListeners<L>,
     pub(crate) alloc: Global,
     pub(crate) tag: u64,
     pub(crate) callers: u32,
 }
 
-impl<L: UpdateListener> Model for DeskParts<L> {
+impl<I: Index, L: UpdateListener> Model for DeskParts<I, L>
+where
+    Published<I>: Absorb<Published<I>, State = Published<I>>,
+{
     ghost use Rattle.std.specs.Prelude.{◌≡◌, [], vec_len};
     ghost use Rattle.clip_desk.specs.Seats.{PartsIs, AreSeated};
     ghost use Rattle.clip_desk.specs.Locked.{IsSettled};
@@ -57,13 +65,13 @@ impl<L: UpdateListener> Model for DeskParts<L> {
 }
 
 /// The seat of a caller, whose end knows what the writer has shown.
-fn seat_one(
-    writer: &mut WriterEnd,
+fn seat_one<I: Index>(
+    writer: &mut WriterEnd<I>,
     seen_history: &SeenHistory,
     tag: u64,
     right: Right,
     callers: u32,
-) -> Result<Seat, NoMemory>
+) -> Result<Seat<I>, NoMemory>
     requires told { IsOf seen_history.now.seen.book callers (view writer.old.desk.place) }
     requires caller { (0 < right.caller) × (right.caller ≤ callers) × (callers ≤ MOST_CALLERS) }
     requires right { (right.book ≡ seen_history.now.seen.book) × (right.made ≡ 0) }
@@ -79,14 +87,14 @@ fn seat_one(
 }
 
 /// The seats of callers 1, 2, ..
-fn seat_all(
+fn seat_all<I: Index>(
     alloc: Global,
-    writer: &mut WriterEnd,
+    writer: &mut WriterEnd<I>,
     seen_history: &SeenHistory,
     rights: Rights,
     tag: u64,
     callers: u32,
-) -> Result<Vec<Seat>, NoMemory>
+) -> Result<Vec<Seat<I>>, NoMemory>
     requires rights { (rights.book ≡ seen_history.now.seen.book) × (rights.given ≡ 0) }
     requires told { IsOf seen_history.now.seen.book callers (view writer.old.desk.place) }
     requires few { callers ≤ MOST_CALLERS }
@@ -105,11 +113,11 @@ fn seat_all(
 }
 
 /// Three times the value that a desk publishes first.
-fn first_values(
-    registrar: &Registrar,
+fn first_values<I: Index>(
+    registrar: &Registrar<I>,
     seen_history: &SeenHistory,
     callers: u32,
-) -> Result<(Published, Published, Published), NoMemory>
+) -> Result<(Published<I>, Published<I>, Published<I>), NoMemory>
     requires { (seen_history.now.seen.log ≡ []) × (registrar.now.history ≡ []) × (registrar.now.segments ≡ []) }
     ensures same { IfOk result (λ t. (t.1 ≡ t.0) × (t.2 ≡ t.0)) }
     ensures first { IfOk result (λ t. (t.0.view ≡ registrar.now) × (t.0.book ≡ seen_history.now.seen.book)
@@ -127,13 +135,13 @@ fn first_values(
 }
 
 /// The writer of new ends, which knows what it has shown.
-fn open_ends<R: Wait>(
+fn open_ends<I: Index, R: Wait>(
     rt: &R,
     alloc: Global,
-    registrar: &Registrar,
+    registrar: &Registrar<I>,
     seen_history: &SeenHistory,
     callers: u32,
-) -> Result<WriterEnd, NoMemory>
+) -> Result<WriterEnd<I>, NoMemory>
     requires { (seen_history.now.seen.log ≡ []) × (registrar.now.history ≡ []) × (registrar.now.segments ≡ [])
         × (0 < callers) × (callers ≤ MOST_CALLERS) }
     ensures shown { IfOk result (λ w. (w.desk.shown.value.view ≡ registrar.now)
@@ -152,7 +160,7 @@ fn open_ends<R: Wait>(
     Ok(writer)
 }
 
-impl<L: UpdateListener> DeskParts<L> {
+impl<I: Index, L: UpdateListener> DeskParts<I, L> {
     /// The parts of a desk of this tag, with an empty registry, a seat for each caller, and these listeners; or the
     /// listeners back: `TooMany` where there are more than `MOST_CALLERS` callers, and `NoMemory` where an allocation
     /// failed. The desk keeps its history, which is read once it is closed. The listeners are told nothing. It never
@@ -163,7 +171,7 @@ impl<L: UpdateListener> DeskParts<L> {
         tag: u64,
         callers: u32,
         updates: UpdateListeners<L>,
-    ) -> Result<DeskParts<L>, (UpdateListeners<L>, NewRefused)>
+    ) -> Result<DeskParts<I, L>, (UpdateListeners<L>, NewRefused)>
         requires { 0 < callers }
         ensures ok { IfOk result (λ p. (p.tag ≡ tag) × (p.callers ≡ callers) × (p.updates ≡ updates)) }
         ensures keeps { IfOk result (λ p. p.keeps ≡ true) }
@@ -182,7 +190,7 @@ impl<L: UpdateListener> DeskParts<L> {
         tag: u64,
         callers: u32,
         updates: UpdateListeners<L>,
-    ) -> Result<DeskParts<L>, (UpdateListeners<L>, NewRefused)>
+    ) -> Result<DeskParts<I, L>, (UpdateListeners<L>, NewRefused)>
         requires { 0 < callers }
         ensures ok { IfOk result (λ p. (p.tag ≡ tag) × (p.callers ≡ callers) × (p.updates ≡ updates)) }
         ensures keeps { IfOk result (λ p. p.keeps ≡ false) }
@@ -203,12 +211,12 @@ impl<L: UpdateListener> DeskParts<L> {
     /// The parts of a desk with this registrar, which is new.
     fn of<R: Wait>(
         rt: &R,
-        registrar: Registrar,
+        registrar: Registrar<I>,
         alloc: Global,
         tag: u64,
         callers: u32,
         updates: UpdateListeners<L>,
-    ) -> Result<DeskParts<L>, (UpdateListeners<L>, NewRefused)>
+    ) -> Result<DeskParts<I, L>, (UpdateListeners<L>, NewRefused)>
         requires some { 0 < callers }
         requires empty { (registrar.history ≡ []) × (registrar.segments ≡ []) }
         ensures ok { IfOk result (λ p. (p.tag ≡ tag) × (p.callers ≡ callers) × (p.updates ≡ updates)) }

@@ -3,6 +3,7 @@ ghost use Rattle.std.specs.Prelude.{◌≡◌, IfOk};
 
 use crate::chronicle::SeenHistory;
 use atomic_table::{Join, Split};
+use clip_indexed::Index;
 use clip_registry::View;
 use crossbeam_utils::rule::{Outcome, Protocol};
 use left_right::Absorb;
@@ -14,9 +15,9 @@ use std::marker::Model;
 /// What a desk publishes: a view, the beginning that its history is, how many callers the desk has, all of whose the
 /// history is, and how long it was at the last purge, at which no entry of the view was dead.
 #[derive(Drop)]
-pub(crate) struct Published {
+pub(crate) struct Published<I: Index> {
     /// The registry as it stood.
-    pub(crate) view: View,
+    pub(crate) view: View<I>,
     /// Its history.
     pub(crate) seen_history: SeenHistory,
     /// Callers are numbered from 1 to this.
@@ -25,7 +26,7 @@ pub(crate) struct Published {
     pub(crate) purged_at: usize,
 }
 
-impl Model for Published {
+impl<I: Index> Model for Published<I> {
     ghost use Rattle.std.specs.Prelude.{◌≡◌};
     ghost use Rattle.clip_desk.specs.Callers.{IsBy};
     ghost use Rattle.clip_desk.specs.Published.{PublishedIs, published_code};
@@ -46,9 +47,9 @@ impl Model for Published {
         × IsPurgedAt p.view p.purged_at };
 }
 
-impl Published {
+impl<I: Index> Published<I> {
     /// A copy, or `AllocError` where a count of holders is at its end. Constant time.
-    pub(crate) fn copy(&self) -> Result<Published, AllocError>
+    pub(crate) fn copy(&self) -> Result<Published<I>, AllocError>
         ensures { IfOk result (λ p. p ≡ self.now) }
     {
         let Ok(view) = self.view.copy() else {
@@ -64,8 +65,8 @@ impl Published {
 }
 
 // Each operation replaces the whole value.
-impl Absorb<Published> for Published {
-    type State = Published;
+impl<I: Index> Absorb<Published<I>> for Published<I> {
+    type State = Published<I>;
 
     ghost state = { λ p. p };
 
@@ -73,14 +74,18 @@ impl Absorb<Published> for Published {
 
     fn absorb_first(
         &mut self,
-        operation: &Published,
-        _other: &Published,
+        operation: &Published<I>,
+        _other: &Published<I>,
     ) -> Result<(), AllocError> {
         *self = operation.copy()?;
         Ok(())
     }
 
-    fn absorb_second(&mut self, operation: Published, _other: &Published) -> Result<(), Published> {
+    fn absorb_second(
+        &mut self,
+        operation: Published<I>,
+        _other: &Published<I>,
+    ) -> Result<(), Published<I>> {
         *self = operation;
         Ok(())
     }
@@ -89,7 +94,7 @@ impl Absorb<Published> for Published {
 /// What an end knows is the value that it saw last.
 pub(crate) struct Rules;
 
-impl Protocol<Published, Option<Published>> for Rules {
+impl<I: Index> Protocol<Published<I>, Option<Published<I>>> for Rules {
     ghost use Rattle.std.specs.Prelude.{None};
     ghost use Rattle.clip_desk.specs.Ends.{Keeps};
 
@@ -101,7 +106,7 @@ impl Protocol<Published, Option<Published>> for Rules {
 /// An end sees what is published.
 pub(crate) struct Sight;
 
-impl Outcome<Published, Option<Published>> for Sight {
+impl<I: Index> Outcome<Published<I>, Option<Published<I>>> for Sight {
     ghost use Rattle.clip_desk.specs.Ends.{Sees};
 
     ghost then = { Sees };
@@ -110,13 +115,13 @@ impl Outcome<Published, Option<Published>> for Sight {
 /// What the writer saw goes to a reader.
 pub(crate) struct Handover;
 
-impl Split<Option<Published>> for Handover {
+impl<I: Index> Split<Option<Published<I>>> for Handover {
     ghost left = { λ v. v };
 
     ghost right = { λ v. v };
 }
 
-impl Join<Option<Published>> for Handover {
+impl<I: Index> Join<Option<Published<I>>> for Handover {
     ghost use Rattle.std.specs.Prelude.{None};
 
     ghost both = { λ v w. w };
@@ -125,7 +130,7 @@ impl Join<Option<Published>> for Handover {
 }
 
 /// The end by which a seat reads.
-pub(crate) type ReaderEnd = Reader<Published, Option<Published>, Rules>;
+pub(crate) type ReaderEnd<I> = Reader<Published<I>, Option<Published<I>>, Rules>;
 
 /// The end by which a desk publishes. It has no `Drop`: end it by `take`.
-pub(crate) type WriterEnd = Writer<Published, Published, Option<Published>, Rules>;
+pub(crate) type WriterEnd<I> = Writer<Published<I>, Published<I>, Option<Published<I>>, Rules>;

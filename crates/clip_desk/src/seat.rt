@@ -14,6 +14,7 @@ use crate::chronicle::{Head, SeenHistory};
 use crate::ends::read_here;
 use crate::published::{Published, ReaderEnd};
 use crate::rights::Right;
+use clip_indexed::Index;
 use clip_model::MOST_CALLERS;
 use clip_registry::{Registrar, View};
 use clip_standing::Applied;
@@ -23,8 +24,8 @@ use std::marker::Model;
 /// One caller's place at a desk, seen as the longest history that it got, the commands that were committed with it, how
 /// long the history was at the last purge with it, and how many purges with it were answered `Ok`. It has the right to
 /// add entries of its caller to the desk's history, which nothing else has.
-pub struct Seat {
-    end: ReaderEnd,
+pub struct Seat<I: Index> {
+    end: ReaderEnd<I>,
     seen_history: SeenHistory,
     tag: u64,
     callers: u32,
@@ -33,7 +34,7 @@ pub struct Seat {
     purges: u64,
 }
 
-impl Drop for Seat {
+impl<I: Index> Drop for Seat<I> {
     fn drop(self) {
         let Seat {
             end: _,
@@ -47,7 +48,7 @@ impl Drop for Seat {
     }
 }
 
-impl Model for Seat {
+impl<I: Index> Model for Seat<I> {
     ghost use Rattle.std.specs.Prelude.{◌≡◌, ◌<◌, ◌≤◌, length};
     ghost use Rattle.left_right.specs.Sides.{view as known_at};
     ghost use Rattle.clip_model.specs.declared.limits.TheConstants.{MOST_CALLERS};
@@ -134,15 +135,15 @@ impl Receipt {
     }
 }
 
-impl Seat {
+impl<I: Index> Seat<I> {
     /// The seat of a caller, which has seen nothing. Constant time.
     pub(crate) fn new(
-        end: ReaderEnd,
+        end: ReaderEnd<I>,
         seen_history: SeenHistory,
         tag: u64,
         right: Right,
         callers: u32,
-    ) -> Seat
+    ) -> Seat<I>
         requires end { IsOf seen_history.seen.book callers (view end.place) }
         requires caller { (0 < right.caller) × (right.caller ≤ callers) × (callers ≤ MOST_CALLERS) }
         requires right { (right.book ≡ seen_history.seen.book) × (right.made ≡ 0) }
@@ -190,7 +191,7 @@ impl Seat {
     /// that were committed with the seat as all of its caller's, and can be read just where the desk keeps it. It has
     /// no entry that was dead at the last purge with the seat. `NoMemory` where a count of holders is at its end. It
     /// waits for nobody, and costs that of `View::number_of`.
-    pub fn look(&mut self) -> Result<View, NoMemory>
+    pub fn look(&mut self) -> Result<View<I>, NoMemory>
         ensures seen { IfOk result (λ v. v.history ≡ self.new.seen) }
         ensures keeps { IfOk result (λ v. v.keeps ≡ self.old.keeps) }
         ensures mine { IfOk result (λ v. own v.history self.old.caller ≡ self.old.mine) }
@@ -239,7 +240,7 @@ impl Seat {
     }
 
     /// Shows that of what two seats of one desk have seen one begins the other. It does nothing at run time.
-    pub fn meet(&self, other: &Seat)
+    pub fn meet(&self, other: &Seat<I>)
         requires desk { other.now.book ≡ self.now.book }
         ensures shorter { length self.now.seen ≤ length other.now.seen → IsPrefix self.now.seen other.now.seen }
         ensures longer { length other.now.seen ≤ length self.now.seen → IsPrefix other.now.seen self.now.seen }
@@ -299,7 +300,7 @@ impl Seat {
         &mut self,
         seen_history: &mut SeenHistory,
         head: &Head,
-        registrar: &Registrar,
+        registrar: &Registrar<I>,
     ) -> bool
         requires desk { (seen_history.old.seen.book ≡ self.old.book) × (head.now ≡ head_of self.old.book) }
         requires one_more { (e : model.HistoryEntry) × (registrar.now.history ≡ seen_history.old.seen.log ++ e ∷ [])

@@ -4,7 +4,7 @@ use Rattle.clip_desk.specs.Seats.{SeatIs}
 use Rattle.clip_desk.proofs.desk.are_of_all_purges.Goals as goal
 
 pub loop-seat-preserved : goal.loop-seat-preserved
-loop-seat-preserved c =
+loop-seat-preserved g c =
     let more = sum_by_more (λ (s : SeatIs). s.purges) c.args.seats.now c.loop-seat.seat-index c.seat-item.result
     (omega arith) in
     let item = ap (λ (s : SeatIs). s.purges) c.seat-item.is in

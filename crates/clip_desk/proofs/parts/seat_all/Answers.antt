@@ -7,7 +7,7 @@ use Rattle.clip_desk.proofs.Seating.{seated_more}
 use Rattle.clip_desk.proofs.parts.seat_all.Goals as goal
 
 pub loop-number-preserved : goal.loop-number-preserved
-loop-number-preserved c =
+loop-number-preserved g c =
     let i = c.loop-number.invariant in
     let kept = c.seat_one.ensures.kept in
     let next = ap (λ n. n + 1) i.left_given in

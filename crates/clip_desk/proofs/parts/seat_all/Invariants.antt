@@ -5,7 +5,7 @@ use Rattle.clip_desk.specs.Seats.{AreSeated}
 use Rattle.clip_desk.proofs.parts.seat_all.Given as goal
 
 abbrev pub invariant-loop-number : goal.invariant-loop-number
-invariant-loop-number l = record {
+invariant-loop-number g l = record {
   seated : AreSeated l.tag l.callers (seen_keeps (view l.initial.writer.desk.place)) l.seen_history.seen.book
       l.seats.items;
   count : vec_len l.seats ≡ l.number;

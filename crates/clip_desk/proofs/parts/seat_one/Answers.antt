@@ -2,10 +2,10 @@ use Rattle.clip_desk.proofs.EndSteps.{admits, forks, merges}
 use Rattle.clip_desk.proofs.parts.seat_one.Goals as goal
 
 pub reader-requires : goal.reader-requires
-reader-requires c = admits
+reader-requires g c = admits
 
 pub tell-requires : goal.tell-requires
-tell-requires c = forks _ _
+tell-requires g c = forks _ _
 
 pub learn-requires-clause-rule : goal.learn-requires-clause-rule
-learn-requires-clause-rule c = merges _ _ _ _
+learn-requires-clause-rule g c = merges _ _ _ _

@@ -20,7 +20,6 @@ use Rattle.clip_standing.specs.contracts.alert.Alerts as alerts
 use Rattle.clip_meaning.specs.contracts.article.Article as article
 use Rattle.clip_meaning.proofs.article.Article.TheSendSync as article_sent
 use Rattle.clip_standing.proofs.Sent.{alerts_send}
-use Rattle.clip_match.proofs.Sent.{view_row, view_sync}
 use Rattle.clip_match.specs.contracts.pieces.Pieces as pieces
 use Rattle.clip_match.proofs.Sent.{view_row, view_sync}
 use Rattle.clip_match.proofs.pieces.+pieces.Goals as goal

@@ -1,10 +1,8 @@
-use Rattle.std.proofs.Common.{◌≡◌, ◌<◌, ◌≤◌, ◌∙◌, ℕ, List, [], ◌∷◌, ◌++◌, ap, sym, refl, subst, arith, rules}
+use Rattle.std.proofs.Common.{◌≡◌, ◌≤◌, ◌∙◌, ℕ, List, [], ◌∷◌, ◌++◌, ap, sym, refl, subst, arith}
 use Rattle.clip_model.specs.History.{History, next_entry, own, with_command, IsLegal}
 use Rattle.clip_standing.specs.Command.{command_of}
-use Rattle.clip_registry.specs.RegistryState.{RegistryState, state_after}
 use Rattle.clip_desk.specs.Callers.{IsBy}
 use Rattle.clip_desk.specs.Chronicle.{head_of}
-use Rattle.clip_desk.specs.Purges.{IsPurgedAt}
 use Rattle.clip_desk.specs.Updates.{AllFollow, AreTold, Heard, event_of}
 use mathlib.Core.List.{IsPrefix}
 use Rattle.clip_desk.proofs.Beginnings.{prefix_self}
@@ -12,46 +10,49 @@ use Rattle.clip_desk.specs.Seats.{SeatIs}
 use Rattle.clip_desk.proofs.Following.{all_follow_entry}
 use Rattle.clip_desk.proofs.Commits.{followed, own_grown, mine_grown, own_fits, seen_grown, by_grown}
 use Rattle.clip_desk.proofs.Purges.{purged_after}
+use Rattle.clip_desk.proofs.Settling.{settled_next}
 use Rattle.clip_desk.proofs.locked.Locked.commit.Goals as goal
 
 pub invariant_of-self : goal.invariant_of-self
 invariant_of-self g c =
-    let before = c.self.inside.registrar.history in
+    let i = c.self.invariant.0 in
+    let s = c.self.inside in
+    let before = s.registrar.history in
     let next = c.in-Ok.grown.registrar in
-    let e = next_entry before c.caller-caller.result (command_of c.args.command) in
-    let history : next.history ≡ before ++ e ∷ [] = ap (λ s. s.history) c.in-Ok.ensures.registrar in
+    let caller = c.caller-caller.result in
+    let command = command_of c.args.command in
+    let purged_at = s.writer.desk.shown.value.purged_at in
+    let known = c.caller-caller.ensures.known in
+    let high : caller ≤ g.N.DeskName.callers = omega (arith, known.1, c.requires.desk.1) in
+    let e = next_entry before caller command in
+    let is = c.in-Ok.ensures.registrar in
+    let history : next.history ≡ before ++ e ∷ [] = ap (λ s. s.history) is in
     let told = c.tell_last.new.updates in (
-      search rules,
-      subst (λ (h : History). AllFollow g.N.DeskName.heard_before h c.self.inside.purges told) (sym history)
-          (all_follow_entry g.N.DeskName.heard_before before c.self.inside.purges c.self.inside.updates told
-          c.self.invariant.1 e (c.tell_last.ensures before e history)),
+      settled_next i c.show_surely.ensures c.in-Ok.ensures.view (ap (λ s. s.keeps) is) c.if-not-add.ensures.added
+          (c.add.ensures.book ∙ ap (λ f. f.seen.book) c.again-seen_history.ensures)
+          (by_grown g.N.DeskName.callers caller s.registrar next command is known.0 high i.by)
+          (purged_after s.registrar next caller command purged_at is i.purged),
+      subst (λ (h : History). AllFollow g.N.DeskName.heard_before h s.purges told) (sym history)
+          (all_follow_entry g.N.DeskName.heard_before before s.purges s.updates told c.self.invariant.1 e
+          (c.tell_last.ensures before e history)),
     )
 
 pub show_surely-requires-clause-callers : goal.show_surely-requires-clause-callers
 show_surely-requires-clause-callers g c =
     let i = c.self.invariant.0 in
-    let seen = c.self.inside.seen_history.seen.log in
-    let caller = c.args.seat.now.caller in
-    let command = command_of c.args.command in
-    let view = c.in-Ok.grown.view.history in
-    let is : view ≡ with_command seen caller command =
-    followed c.self.inside.registrar c.in-Ok.grown.registrar seen view caller c.caller-caller.result command
-    (ap (λ s. s.history) c.in-Ok.ensures.view) c.in-Ok.ensures.registrar i.log c.caller-caller.ensures.caller in
-    let callers = g.N.DeskName.callers in
+    let caller = c.caller-caller.result in
+    let view = c.in-Ok.grown.view in
     let known = c.caller-caller.ensures.known in
-    let same = c.caller-caller.ensures.caller in
-    let low : 0 < caller = omega (arith, known.0, same) in
-    let high : caller ≤ callers = omega (arith, known.1, same, c.requires.desk.1) in
-    subst (λ (n : ℕ). IsBy n view) (sym i.shown_callers)
-    (by_grown callers caller seen view command (subst (IsBy callers) (sym i.log) i.by) is low high)
+    let high : caller ≤ g.N.DeskName.callers = omega (arith, known.1, c.requires.desk.1) in
+    subst (λ (n : ℕ). IsBy n view.history) (sym i.shown_callers)
+    (by_grown g.N.DeskName.callers caller c.self.inside.registrar view (command_of c.args.command)
+    (c.in-Ok.ensures.view ∙ c.in-Ok.ensures.registrar) known.0 high i.by)
 
 pub show_surely-requires-clause-purged : goal.show_surely-requires-clause-purged
 show_surely-requires-clause-purged g c =
-    let registrar = c.self.inside.registrar in
-    let purged_at = c.self.inside.writer.desk.shown.value.purged_at in
-    subst (λ (s : RegistryState). IsPurgedAt s purged_at)
-    (sym (c.in-Ok.ensures.view ∙ c.in-Ok.ensures.registrar))
-    (purged_after registrar c.caller-caller.result (command_of c.args.command) purged_at c.self.invariant.0.purged)
+    purged_after c.self.inside.registrar c.in-Ok.grown.view c.caller-caller.result (command_of c.args.command)
+    c.self.inside.writer.desk.shown.value.purged_at (c.in-Ok.ensures.view ∙ c.in-Ok.ensures.registrar)
+    c.self.invariant.0.purged
 
 pub add-requires-clause-desk : goal.add-requires-clause-desk
 add-requires-clause-desk g c =
@@ -91,24 +92,17 @@ returns-clause-told g c =
 
 pub returns-clause-legal : goal.returns-clause-legal
 returns-clause-legal g c =
-    let i = c.self.invariant.0 in
-    let seen = c.self.inside.seen_history.seen.log in
-    let caller = c.args.seat.now.caller in
-    let command = command_of c.args.command in
-    let after = c.new.result.history in
+    let caller = c.caller-caller.result in
     let next = c.in-Ok.grown.registrar in
-    let told : after ≡ next.history = ap (λ r. r.history) c.new.ensures ∙ ap (λ f. f.seen.log) c.again-2.ensures
-    ∙ c.if-not-add.ensures.added in
-    let is : after ≡ with_command seen caller command =
-    followed c.self.inside.registrar next seen after caller c.caller-caller.result command told
-    c.in-Ok.ensures.registrar i.log c.caller-caller.ensures.caller in
-    let known = c.caller-caller.ensures.known in
-    let same = c.caller-caller.ensures.caller in
+    let told : c.new.result.history ≡ next.history = ap (λ r. r.history) c.new.ensures
+    ∙ ap (λ f. f.seen.log) c.again-2.ensures ∙ c.if-not-add.ensures.added in
     let callers = g.N.DeskName.callers in
-    let low : 0 < caller = omega (arith, known.0, same) in
-    let high : caller ≤ callers = omega (arith, known.1, same, c.requires.desk.1) in (
+    let known = c.caller-caller.ensures.known in
+    let high : caller ≤ callers = omega (arith, known.1, c.requires.desk.1) in (
       subst IsLegal (sym told) c.add.ensures.legal,
-      by_grown callers caller seen after command (subst (IsBy callers) (sym i.log) i.by) is low high,
+      subst (IsBy callers) (sym told)
+          (by_grown callers caller c.self.inside.registrar next (command_of c.args.command) c.in-Ok.ensures.registrar
+          known.0 high c.self.invariant.0.by),
     )
 
 pub returns-clause-seen : goal.returns-clause-seen

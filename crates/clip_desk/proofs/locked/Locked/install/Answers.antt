@@ -1,5 +1,5 @@
 use Rattle.std.proofs.Common.{rules, ◌≡◌, ◌∙◌, Ok, ap, filter, subst, sym}
-use Rattle.clip_segment.specs.Segment.{all_entries}
+use Rattle.clip_indexed.specs.Segment.{all_entries}
 use Rattle.clip_registry.specs.RegistryState.{RegistryState}
 use Rattle.clip_registry.specs.Merging.{IsStale, Merge}
 use Rattle.clip_desk.specs.Purges.{IsPurgedAt}
@@ -24,7 +24,8 @@ put-requires-clause-purged g c =
     let purged : IsPurgedAt c.install.new.self shown.purged_at =
     purged_installed c.in_ok-next.next c.install.new.self c.args.merged (λ r. c.merged.invariant.is r.seq)
     shown.purged_at (c.in_ok-install.ensures.done (ap Ok c.in-Done.is)) some was in
-    subst (IsPurgedAt c.install.new.self) (sym (ap (λ p. p.purged_at) c.published.ensures)) purged
+    let kept = ap (λ p. p.purged_at) (c.behind-self.view_is ∙ c.published.ensures) in
+    subst (IsPurgedAt c.install.new.self) (sym kept) purged
 
 -- proved by search alone: it stands here so that a wrong body is refused at once
 pub returns-in_ok-put-in-Done-clause-done : goal.returns-in_ok-put-in-Done-clause-done

@@ -6,17 +6,17 @@ use Rattle.clip_desk.specs.Chronicle.{head_of}
 use Rattle.clip_desk.proofs.seat.Seat.add.Goals as goal
 
 pub follow-requires-clause-head : goal.follow-requires-clause-head
-follow-requires-clause-head c = c.requires.desk.1 ∙ ap head_of (sym c.requires.desk.0)
+follow-requires-clause-head g c = c.requires.desk.1 ∙ ap head_of (sym c.requires.desk.0)
 
 pub follow-requires-clause-one_more : goal.follow-requires-clause-one_more
-follow-requires-clause-one_more c = let o = c.requires.one_more in
+follow-requires-clause-one_more g c = let o = c.requires.one_more in
     (o.0, o.1, o.2 ∙ sym (ap (λ v. v.caller) c.self.view_is))
 
 pub follow-requires-clause-book : goal.follow-requires-clause-book
-follow-requires-clause-book c = c.self.invariant.5 ∙ ap (λ v. v.book) c.self.view_is ∙ sym c.requires.desk.0
+follow-requires-clause-book g c = c.self.invariant.5 ∙ ap (λ v. v.book) c.self.view_is ∙ sym c.requires.desk.0
 
 pub follow-requires-clause-counted : goal.follow-requires-clause-counted
-follow-requires-clause-counted c =
+follow-requires-clause-counted g c =
     let s = c.self.inside in
     let history = c.args.registrar.now.history in
     let o = c.requires.one_more in

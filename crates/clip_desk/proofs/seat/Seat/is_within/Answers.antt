@@ -6,7 +6,7 @@ use Rattle.clip_model.specs.History.{own}
 use Rattle.clip_desk.proofs.seat.Seat.is_within.Goals as goal
 
 pub returns-then-self-count-clause-mine : goal.returns-then-self-count-clause-mine
-returns-then-self-count-clause-mine c is =
+returns-then-self-count-clause-mine g c is =
     let s = c.self.inside in
     let seen = s.seen_history.seen.log in
     let made = length-take-le s.right.made (own seen s.right.caller) c.self.invariant.1 in
