@@ -10,11 +10,15 @@ use Rattle.std.proofs.alloc.Global.TheSendSync as global_sent
 use Rattle.std.below.std_heap.proofs.GlobalAllocator.TheSendSync as allocator_sent
 use Rattle.crossbeam_channel.proofs.channel.Sender.TheSendSync as sender_sent
 use Rattle.crossbeam_channel.proofs.channel.Receiver.TheSendSync as receiver_sent
+use Rattle.clip_segment.specs.contracts.labelled_index.LabelledIndex as labelled_index
+use Rattle.clip_segment.specs.contracts.labelled_index.LabelledIndexIndex.TheImpl as index_impl
+use Rattle.clip_segment.proofs.Sent.{labelled_index_send, labelled_index_sync}
 use Rattle.clip_desk.specs.contracts.update_listener.UpdateLog as log
 use Rattle.clip_desk.specs.contracts.update_listener.UpdateLogUpdateListener.TheImpl as log_impl
 use Rattle.clip_desk.proofs.update_listener.UpdateLog.TheSendSync as log_sent
 use Rattle.clip_desk.specs.declared.locked.DeskName.{Ghosts}
-use Rattle.clip_desk.proofs.Sent.{desk_sync}
+use Rattle.clip_desk.specs.contracts.seat.Seat as seat
+use Rattle.clip_desk.proofs.Sent as sent
 use Rattle.clip_desk.proofs.desk_merging.Nudge.TheSendSync as nudge_sent
 use Rattle.busy_desk.specs.contracts.merging.Room as room
 use Rattle.std.proofs.sync.atomic.AtomicBool.TheSendSync as flag_sent
@@ -29,12 +33,19 @@ ruleset global = (
   nudge_sent.the_sync,
 )
 
+abbrev pub seat_row : RattleType
+seat_row = seat.the_row labelled_index.the_row index_impl.ghosts
+
+pub seat_send : IsSend seat_row
+seat_send = sent.seat_send labelled_index.the_row index_impl.ghosts labelled_index_send labelled_index_sync
+
 pub room_sync : (N : RattleType) (g : Ghosts N.Denot) → IsSync (room.the_row N g)
 room_sync N g =
     declared_sync (room.the_type N g) (
       search global,
       (
-        desk_sync N log.the_row g log_impl.ghosts log_sent.the_send,
+        sent.desk_sync labelled_index.the_row index_impl.ghosts labelled_index_send labelled_index_sync N log.the_row g
+            log_impl.ghosts log_sent.the_send,
         (
           search (global, sender_sent.the_sync) depth 20,
           (

@@ -14,10 +14,12 @@ ghost use Rattle.clip_model.specs.History.{fits};
 ghost use Rattle.clip_standing.specs.Command.{command_of};
 
 mod commands;
+mod desk;
 mod merging;
 
+use crate::desk::{Desk, DeskParts, Seat};
 use anyhow::{Result, bail};
-use clip_desk::{Desk, DeskName, DeskParts, Seat, UpdateListeners, UpdateLog};
+use clip_desk::{DeskName, UpdateListeners};
 use clip_match::View;
 use clip_standing::Command;
 use commands::{Change, change_one, register_from};
@@ -81,7 +83,7 @@ fn form_of<R: Env + AllocGlobal>(rt: &R) -> Result<Form> {
 /// Commits a command, which is not refused.
 fn commit<N: DeskName, R: Wait>(
     rt: &R,
-    desk: &Desk<N, UpdateLog>,
+    desk: &Desk<N>,
     seat: &mut Seat,
     command: Command,
 ) -> Result<()>
@@ -101,7 +103,7 @@ fn commit<N: DeskName, R: Wait>(
 fn fill<N: DeskName, R: Wait>(
     rt: &R,
     alloc: Global,
-    desk: &Desk<N, UpdateLog>,
+    desk: &Desk<N>,
     seat: &mut Seat,
     listed: u64,
 ) -> Result<()>
@@ -120,7 +122,7 @@ fn fill<N: DeskName, R: Wait>(
 fn change_each<N: DeskName, R: Wait>(
     rt: &R,
     alloc: Global,
-    desk: &Desk<N, UpdateLog>,
+    desk: &Desk<N>,
     writer: &mut Seat,
     reader: &mut Seat,
     changes: Changes,
@@ -141,7 +143,7 @@ fn change_each<N: DeskName, R: Wait>(
 fn work_at<N: DeskName, R: Wait>(
     rt: &R,
     alloc: Global,
-    desk: &Desk<N, UpdateLog>,
+    desk: &Desk<N>,
     mut seats: Vec<Seat>,
     work: Work,
 ) -> Result<View>
@@ -175,23 +177,18 @@ fn seat_of<N: DeskName>(seats: &mut Vec<Seat>) -> Option<Seat>
 }
 
 /// Opens a desk of these parts, does the work at it, and ends it.
-fn play<N: DeskName, R: Wait>(
-    rt: &R,
-    alloc: Global,
-    parts: DeskParts<UpdateLog>,
-    work: Work,
-) -> Result<View>
+fn play<N: DeskName, R: Wait>(rt: &R, alloc: Global, parts: DeskParts, work: Work) -> Result<View>
     requires { (parts.book ≡ N.book) × (parts.callers ≡ N.callers) × (N.heard_before ≡ all_heard parts.updates)
         × (parts.keeps ≡ N.keeps) }
 {
-    let (desk, seats) = Desk::<N, UpdateLog>::open(parts);
+    let (desk, seats) = Desk::<N>::open(parts);
     let last = work_at(rt, alloc, &desk, seats, work);
     desk.end(rt);
     last
 }
 
 /// The parts of a desk of two callers, without listeners.
-fn parts_of<R: Wait>(rt: &R, alloc: Global) -> Result<DeskParts<UpdateLog>> {
+fn parts_of<R: Wait>(rt: &R, alloc: Global) -> Result<DeskParts> {
     let Ok(updates) = UpdateListeners::new(alloc, Vec::new(alloc)) else {
         bail!("no memory");
     };

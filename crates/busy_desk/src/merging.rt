@@ -4,9 +4,10 @@ ghost use Rattle.clip_desk.specs.Updates.{all_heard};
 ghost use Rattle.clip_desk.specs.Locked.{IsSeatOf};
 
 use crate::commands::{Change, change_one};
+use crate::desk::{Desk, DeskParts, Seat};
 use crate::{commit, seat_of};
 use anyhow::{Result, bail};
-use clip_desk::{Desk, DeskName, DeskParts, Nudge, Seat, UpdateLog};
+use clip_desk::{DeskName, Nudge};
 use clip_match::match_article;
 use clip_meaning::Article;
 use crossbeam_channel::{Receiver, Sender, unbounded};
@@ -96,7 +97,7 @@ pub struct Report {
 /// What the threads share.
 struct Room<N: DeskName> {
     alloc: Global,
-    desk: Desk<N, UpdateLog>,
+    desk: Desk<N>,
     sender: Sender<Nudge>,
     nudges: Receiver<Nudge>,
     is_done: AtomicBool,
@@ -243,14 +244,14 @@ fn run_all<N: DeskName + Send + Sync, R: Threads + Wait + Clock + Sync>(
 pub fn measure<N: DeskName + Send + Sync, R: Threads + Wait + Clock + Sync>(
     rt: &R,
     alloc: Global,
-    parts: DeskParts<UpdateLog>,
+    parts: DeskParts,
     commits: u64,
     merger: Merger,
 ) -> Result<Report>
     requires { (parts.book ≡ N.book) × (parts.callers ≡ N.callers) × (N.heard_before ≡ all_heard parts.updates)
         × (parts.keeps ≡ N.keeps) }
 {
-    let (desk, mut seats) = Desk::<N, UpdateLog>::open(parts);
+    let (desk, mut seats) = Desk::<N>::open(parts);
     let (Some(reader), Some(writer), Ok((sender, nudges))) = (
         seat_of::<N>(&mut seats),
         seat_of::<N>(&mut seats),

@@ -4,7 +4,8 @@ ghost use Rattle.clip_desk.specs.Purges.{IsPurgedAt};
 ghost use Rattle.clip_run.specs.Alone.{history_alone};
 ghost use Rattle.clip_run.specs.Seated.{IsOnly};
 
-use clip_desk::{Desk, DeskName, Nudge, Refused, Seat, UpdateLog};
+use crate::desk::{Desk, Seat};
+use clip_desk::{DeskName, Nudge, Refused};
 use clip_front::Registry;
 use clip_match::View;
 use clip_registry::MergeTurn;
@@ -21,7 +22,7 @@ use std::sync::Wait;
 #[derive(Drop)]
 pub struct Caller<'r, 'd, R, N: DeskName> {
     rt: &'r R,
-    desk: &'d Desk<N, UpdateLog>,
+    desk: &'d Desk<N>,
     seat: Seat,
     nudges: Option<Sender<Nudge>>,
 }
@@ -42,7 +43,7 @@ impl<'r, 'd, R, N: DeskName> Model for Caller<'r, 'd, R, N> {
 
 impl<'r, 'd, R: Wait, N: DeskName> Caller<'r, 'd, R, N> {
     /// The caller of a seat, which merges by itself. Constant time.
-    pub fn new(rt: &'r R, desk: &'d Desk<N, UpdateLog>, seat: Seat) -> Caller<'r, 'd, R, N>
+    pub fn new(rt: &'r R, desk: &'d Desk<N>, seat: Seat) -> Caller<'r, 'd, R, N>
         requires { IsOnly N.book N.callers desk.now seat }
         ensures { result ≡ record { history = history_alone seat.mine; purged_at = seat.purged_at } }
     {

@@ -6,6 +6,7 @@ mod alone;
 mod batch;
 mod caller;
 mod crew;
+mod desk;
 mod finding;
 mod giver;
 mod group;

@@ -13,8 +13,9 @@ ghost use Rattle.clip_run.specs.Seated.{IsOnlyNew};
 use crate::alone::run_alone_again;
 use crate::caller::Caller;
 use crate::crew::Crew;
+use crate::desk::{Desk, DeskParts, Seat};
 use crate::serving::serve_crew;
-use clip_desk::{Desk, DeskName, DeskParts, Nudge, Seat, UpdateListeners, UpdateLog};
+use clip_desk::{DeskName, Nudge, UpdateListeners};
 use clip_front::{Ended, Settings, take_kept};
 use clip_listen::Audience;
 use clip_match::Gate;
@@ -90,7 +91,7 @@ fn run_crew<
     reader: &mut S,
     writer: &mut W,
     audience: &mut A,
-    desk: &Desk<N, UpdateLog>,
+    desk: &Desk<N>,
     crew: Crew<'_, '_, '_, R, N, G>,
 ) -> Result<Ended, RunFault>
     requires fresh { AreFresh (devices_at S.Source W.Sink reader.old writer.old) }
@@ -144,7 +145,7 @@ fn run_seated<
     reader: &mut S,
     writer: &mut W,
     audience: &mut A,
-    desk: &Desk<N, UpdateLog>,
+    desk: &Desk<N>,
     seat: Seat,
 ) -> Result<Ended, RunFault>
     requires fresh { AreFresh (devices_at S.Source W.Sink reader.old writer.old) }
@@ -171,7 +172,7 @@ fn run_seated<
 }
 
 /// The parts of a desk of one caller, without listeners.
-fn parts_of_one<R: Wait>(rt: &R, alloc: Global) -> Result<DeskParts<UpdateLog>, NoMemory>
+fn parts_of_one<R: Wait>(rt: &R, alloc: Global) -> Result<DeskParts, NoMemory>
     ensures { IfOk result (λ parts. (parts.tag ≡ TAG) × (parts.callers ≡ 1)) }
 {
     let Ok(updates) = UpdateListeners::new(alloc, Vec::new(alloc)) else {
@@ -196,7 +197,7 @@ fn run_desk<
     reader: &mut S,
     writer: &mut W,
     audience: &mut A,
-    parts: DeskParts<UpdateLog>,
+    parts: DeskParts,
 ) -> Result<Ended, RunFault>
     requires fresh { AreFresh (devices_at S.Source W.Sink reader.old writer.old) }
     requires named { (parts.book ≡ N.book) × (parts.callers ≡ N.callers) × (N.heard_before ≡ all_heard parts.updates)
@@ -208,7 +209,7 @@ fn run_desk<
         result }
 {
     let rt = job.rt;
-    let (desk, mut seats) = Desk::<N, UpdateLog>::open(parts);
+    let (desk, mut seats) = Desk::<N>::open(parts);
     let Some(seat) = seats.pop() else {
         unreachable!();
     };

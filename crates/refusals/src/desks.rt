@@ -5,20 +5,31 @@ ghost use Rattle.clip_desk.specs.Locked.{AreSeatsOf, IsSeatOf};
 
 use crate::registry::registering;
 use crate::telling::{answered, call, refused};
-use clip_desk::{
-    Closed, Desk, DeskName, DeskParts, Refused, Seat, SeatMissing, UpdateListeners, UpdateLog,
-};
+use clip_desk::{DeskName, Refused, SeatMissing, UpdateListeners, UpdateLog};
 use clip_registry::MergeTurn;
+use clip_segment::LabelledIndex;
 use clip_words::NoMemory;
 use std::alloc::Global;
 use std::marker::Brand;
 use std::sync::Wait;
 
+/// A desk of a registry over the index by which articles are matched.
+type Desk<N> = clip_desk::Desk<N, LabelledIndex, UpdateLog>;
+
+/// A seat of such a desk.
+type Seat = clip_desk::Seat<LabelledIndex>;
+
+/// The parts of such a desk.
+type DeskParts = clip_desk::DeskParts<LabelledIndex, UpdateLog>;
+
+/// What such a desk leaves at its close.
+type Closed = clip_desk::Closed<LabelledIndex, UpdateLog>;
+
 /// How many events the listener hears where none is refused: those of five commits and of a purge.
 const EVENTS: usize = 6;
 
 /// The parts of a desk of one caller, with a listener that has heard nothing.
-fn parts<R: Wait + AllocGlobal>(rt: &R) -> Option<DeskParts<UpdateLog>> {
+fn parts<R: Wait + AllocGlobal>(rt: &R) -> Option<DeskParts> {
     let alloc = rt.alloc();
     let logs = vec![in alloc; UpdateLog::new(alloc)].ok()?;
     let updates = UpdateListeners::new(alloc, logs).ok()?;
@@ -40,7 +51,7 @@ fn refused_after<R: Print>(rt: &R, seat: &mut Seat, before: u64)
 fn of_commit<N: DeskName, R: Print + Wait>(
     rt: &R,
     alloc: Global,
-    desk: &Desk<N, UpdateLog>,
+    desk: &Desk<N>,
     seat: &mut Seat,
     id: &str,
     before: u64,
@@ -79,7 +90,7 @@ fn of_look<R: Print>(rt: &R, seat: &mut Seat) -> bool
 }
 
 /// Merges.
-fn of_merge_once<N: DeskName, R: Print + Wait>(rt: &R, desk: &Desk<N, UpdateLog>) -> bool {
+fn of_merge_once<N: DeskName, R: Print + Wait>(rt: &R, desk: &Desk<N>) -> bool {
     call(rt, "Desk::merge_once");
     match desk.merge_once(rt) {
         Ok(turn) => answered(rt, (turn == MergeTurn::Installed) as u64),
@@ -88,11 +99,7 @@ fn of_merge_once<N: DeskName, R: Print + Wait>(rt: &R, desk: &Desk<N, UpdateLog>
 }
 
 /// Purges.
-fn of_purge<N: DeskName, R: Print + Wait>(
-    rt: &R,
-    desk: &Desk<N, UpdateLog>,
-    seat: &mut Seat,
-) -> bool
+fn of_purge<N: DeskName, R: Print + Wait>(rt: &R, desk: &Desk<N>, seat: &mut Seat) -> bool
     ensures { (seat.new.book ≡ seat.old.book) × (seat.new.callers ≡ seat.old.callers) }
 {
     call(rt, "Desk::purge");
@@ -103,7 +110,7 @@ fn of_purge<N: DeskName, R: Print + Wait>(
 }
 
 /// How many commands a closed desk has; none unless its listener has heard of each, or is marked.
-fn closed_with(closed: &Closed<UpdateLog>) -> u64 {
+fn closed_with(closed: &Closed) -> u64 {
     match closed.updates.as_slice() {
         [(log, is_marked)] if *is_marked || log.events().len() == EVENTS => {
             closed.registrar.history().len() as u64
@@ -113,7 +120,7 @@ fn closed_with(closed: &Closed<UpdateLog>) -> u64 {
 }
 
 /// Closes the desk with all its seats.
-fn of_close<N: DeskName, R: Print + Wait>(rt: &R, desk: Desk<N, UpdateLog>, all: Vec<Seat>)
+fn of_close<N: DeskName, R: Print + Wait>(rt: &R, desk: Desk<N>, all: Vec<Seat>)
     requires { AreSeatsOf N.book N.callers all.items }
 {
     call(rt, "Desk::close");
@@ -134,12 +141,12 @@ fn pop_seat<N: DeskName>(seats: &mut Vec<Seat>) -> Option<Seat>
 }
 
 /// Makes each call at a desk of these parts.
-fn use_desk<N: DeskName, R: Print + Wait>(rt: &R, alloc: Global, parts: DeskParts<UpdateLog>)
+fn use_desk<N: DeskName, R: Print + Wait>(rt: &R, alloc: Global, parts: DeskParts)
     requires book { (parts.book ≡ N.book) × (parts.callers ≡ N.callers) }
     requires heard { N.heard_before ≡ all_heard parts.updates }
     requires keeps { parts.keeps ≡ N.keeps }
 {
-    let (desk, mut seats) = Desk::<N, UpdateLog>::open(parts);
+    let (desk, mut seats) = Desk::<N>::open(parts);
     let Some(mut seat) = pop_seat::<N>(&mut seats) else {
         desk.end(rt);
         return;

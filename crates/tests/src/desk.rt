@@ -9,3 +9,4 @@ mod plain;
 mod receipts;
 mod refusals;
 mod room;
+mod types;

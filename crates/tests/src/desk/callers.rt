@@ -4,7 +4,8 @@ ghost use Rattle.clip_desk.specs.Updates.{all_heard};
 ghost use Rattle.clip_desk.specs.Locked.{IsSeatOf};
 
 use crate::desk::making::{commit, parts_of, pop_seat, register, sees};
-use clip_desk::{Desk, DeskName, DeskParts, Seat, UpdateLog};
+use crate::desk::types::{Desk, DeskParts, Seat};
+use clip_desk::DeskName;
 use clip_standing::Applied;
 use std::alloc::Global;
 use std::marker::Brand;
@@ -19,12 +20,12 @@ fn a_caller_sees_what_another_committed(rt: HostRuntime) -> Result<(), Fail> {
     Ok(())
 }
 
-fn run_both<N: DeskName, R: Wait + Abort>(rt: &R, alloc: Global, parts: DeskParts<UpdateLog>)
+fn run_both<N: DeskName, R: Wait + Abort>(rt: &R, alloc: Global, parts: DeskParts)
     requires book { (parts.book ≡ N.book) × (parts.callers ≡ N.callers) }
     requires heard { N.heard_before ≡ all_heard parts.updates }
     requires keeps { parts.keeps ≡ N.keeps }
 {
-    let (desk, mut seats) = Desk::<N, UpdateLog>::open(parts);
+    let (desk, mut seats) = Desk::<N>::open(parts);
     match (pop_seat::<N>(&mut seats), pop_seat::<N>(&mut seats)) {
         (Some(second), Some(first)) => take_turns(rt, alloc, &desk, first, second),
         _ => panic!(rt; "two seats"),
@@ -35,7 +36,7 @@ fn run_both<N: DeskName, R: Wait + Abort>(rt: &R, alloc: Global, parts: DeskPart
 fn take_turns<N: DeskName, R: Wait + Abort>(
     rt: &R,
     alloc: Global,
-    desk: &Desk<N, UpdateLog>,
+    desk: &Desk<N>,
     mut first: Seat,
     mut second: Seat,
 )

@@ -9,7 +9,8 @@ use crate::desk::making::{commit, parts_of, pop_seat, purge, register};
 use crate::desk::plain::{Plain, STEPS, Step, steps_of, told};
 use crate::desk::receipts::{check_turns, take_turns};
 use crate::desk::room::{Plan, Room};
-use clip_desk::{Desk, DeskName, DeskParts, Nudge, Seat, UpdateLog};
+use crate::desk::types::{Desk, DeskParts, Seat};
+use clip_desk::{DeskName, Nudge};
 use clip_match::{Registrar, View, match_article};
 use clip_meaning::Article;
 use clip_registry::History;
@@ -247,14 +248,14 @@ fn run_plan<R: Threads + Wait + Abort + Sync + AllocGlobal>(
 fn run_four<N: DeskName + Send + Sync, R: Threads + Wait + Abort + Sync>(
     rt: &R,
     alloc: Global,
-    parts: DeskParts<UpdateLog>,
+    parts: DeskParts,
     plan: Plan,
 )
     requires book { (parts.book ≡ N.book) × (parts.callers ≡ N.callers) }
     requires heard { N.heard_before ≡ all_heard parts.updates }
     requires keeps { parts.keeps ≡ N.keeps }
 {
-    let (desk, mut seats) = Desk::<N, UpdateLog>::open(parts);
+    let (desk, mut seats) = Desk::<N>::open(parts);
     let (Some(three), Some(two), Some(one)) = (
         pop_seat::<N>(&mut seats),
         pop_seat::<N>(&mut seats),

@@ -4,8 +4,9 @@ ghost use Rattle.clip_desk.specs.Updates.{all_heard};
 ghost use Rattle.clip_desk.specs.Locked.{IsSeatOf};
 
 use crate::desk::making::{commit_four, parts_with, pop_seat, purge};
+use crate::desk::types::{Closed, Desk, DeskParts, Seat};
 use crate::updates::lines;
-use clip_desk::{Closed, Desk, DeskName, DeskParts, Seat, UpdateLog};
+use clip_desk::{DeskName, UpdateLog};
 use std::alloc::Global;
 use std::marker::Brand;
 use std::process::Abort;
@@ -20,12 +21,12 @@ fn a_log_hears_four_commits_and_a_purge(rt: HostRuntime) -> Result<(), Fail> {
     Ok(())
 }
 
-fn run_purge<N: DeskName, R: Wait + Abort>(rt: &R, alloc: Global, parts: DeskParts<UpdateLog>)
+fn run_purge<N: DeskName, R: Wait + Abort>(rt: &R, alloc: Global, parts: DeskParts)
     requires book { (parts.book ≡ N.book) × (parts.callers ≡ N.callers) }
     requires heard { N.heard_before ≡ all_heard parts.updates }
     requires keeps { parts.keeps ≡ N.keeps }
 {
-    let (desk, mut seats) = Desk::<N, UpdateLog>::open(parts);
+    let (desk, mut seats) = Desk::<N>::open(parts);
     let Some(mut seat) = pop_seat::<N>(&mut seats) else {
         panic!(rt; "one seat")
     };
@@ -34,12 +35,7 @@ fn run_purge<N: DeskName, R: Wait + Abort>(rt: &R, alloc: Global, parts: DeskPar
     close_one(rt, alloc, desk, seat);
 }
 
-fn close_one<N: DeskName, R: Wait + Abort>(
-    rt: &R,
-    alloc: Global,
-    desk: Desk<N, UpdateLog>,
-    seat: Seat,
-)
+fn close_one<N: DeskName, R: Wait + Abort>(rt: &R, alloc: Global, desk: Desk<N>, seat: Seat)
     requires { IsSeatOf N.book N.callers seat }
 {
     let Ok(all) = Vec::from_array(alloc, [seat]) else {
@@ -53,7 +49,7 @@ fn close_one<N: DeskName, R: Wait + Abort>(
 }
 
 /// Checks that the one log heard all and missed nothing.
-fn check_log<R: Abort>(rt: &R, alloc: Global, closed: &Closed<UpdateLog>) {
+fn check_log<R: Abort>(rt: &R, alloc: Global, closed: &Closed) {
     let (log, missed) = closed.updates.first().expect(rt, "one log");
     assert!(rt; !*missed, "it missed nothing");
     let told = lines(alloc, log).ok().expect(rt, "no memory");

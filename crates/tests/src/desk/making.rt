@@ -4,7 +4,8 @@ ghost use Rattle.clip_model.specs.History.{fits};
 ghost use Rattle.clip_standing.specs.Command.{command_of};
 ghost use Rattle.clip_desk.specs.Locked.{IsSeatOf, AreSeatsOf};
 
-use clip_desk::{Desk, DeskName, DeskParts, NewRefused, Receipt, Seat, UpdateListeners, UpdateLog};
+use crate::desk::types::{Desk, DeskParts, Seat};
+use clip_desk::{DeskName, NewRefused, Receipt, UpdateListeners, UpdateLog};
 use clip_samples::standing;
 use clip_standing::Command;
 use std::alloc::Global;
@@ -36,7 +37,7 @@ pub fn parts_with<R: Wait>(
     tag: u64,
     callers: u32,
     logs: Vec<UpdateLog>,
-) -> Result<DeskParts<UpdateLog>, NewRefused>
+) -> Result<DeskParts, NewRefused>
     requires { 0 < callers }
 {
     let Ok(updates) = UpdateListeners::new(alloc, logs) else {
@@ -54,7 +55,7 @@ pub fn parts_of<R: Wait>(
     alloc: Global,
     tag: u64,
     callers: u32,
-) -> Result<DeskParts<UpdateLog>, NewRefused>
+) -> Result<DeskParts, NewRefused>
     requires { 0 < callers }
 {
     parts_with(rt, alloc, tag, callers, Vec::new(alloc))
@@ -72,7 +73,7 @@ pub fn pop_seat<N: DeskName>(seats: &mut Vec<Seat>) -> Option<Seat>
 /// Commits a command, which is not refused.
 pub fn commit<N: DeskName, R: Wait + Abort>(
     rt: &R,
-    desk: &Desk<N, UpdateLog>,
+    desk: &Desk<N>,
     seat: &mut Seat,
     command: Command,
 ) -> Receipt
@@ -91,7 +92,7 @@ pub fn commit<N: DeskName, R: Wait + Abort>(
 pub fn commit_four<N: DeskName, R: Wait + Abort>(
     rt: &R,
     alloc: Global,
-    desk: &Desk<N, UpdateLog>,
+    desk: &Desk<N>,
     seat: &mut Seat,
 )
     requires { IsSeatOf N.book N.callers seat.old }
@@ -104,7 +105,7 @@ pub fn commit_four<N: DeskName, R: Wait + Abort>(
 }
 
 /// Purges, which is not refused.
-pub fn purge<N: DeskName, R: Wait + Abort>(rt: &R, desk: &Desk<N, UpdateLog>, seat: &mut Seat)
+pub fn purge<N: DeskName, R: Wait + Abort>(rt: &R, desk: &Desk<N>, seat: &mut Seat)
     requires { IsSeatOf N.book N.callers seat.old }
     ensures { IsSeatOf N.book N.callers seat.new }
 {

@@ -7,7 +7,8 @@ ghost use Rattle.clip_desk.specs.Updates.{all_heard};
 ghost use Rattle.clip_desk.specs.Locked.{IsSeatOf};
 
 use crate::desk::making::{parts_of, pop_seat, registering};
-use clip_desk::{Desk, DeskName, DeskParts, Seat, UpdateLog};
+use crate::desk::types::{Desk, DeskParts, Seat};
+use clip_desk::DeskName;
 use std::alloc::Global;
 use std::marker::Brand;
 use std::process::Abort;
@@ -20,12 +21,12 @@ fn a_refused_commit_is_accepted_when_tried_again(rt: HostRuntime) {
     }
 }
 
-fn run_again<N: DeskName, R: Wait + Abort>(rt: &R, alloc: Global, parts: DeskParts<UpdateLog>)
+fn run_again<N: DeskName, R: Wait + Abort>(rt: &R, alloc: Global, parts: DeskParts)
     requires book { (parts.book ≡ N.book) × (parts.callers ≡ N.callers) }
     requires heard { N.heard_before ≡ all_heard parts.updates }
     requires keeps { parts.keeps ≡ N.keeps }
 {
-    let (desk, mut seats) = Desk::<N, UpdateLog>::open(parts);
+    let (desk, mut seats) = Desk::<N>::open(parts);
     if let Some(mut seat) = pop_seat::<N>(&mut seats) {
         let mut accepted = 0u64;
         for _ in 0..20u32 {
@@ -43,7 +44,7 @@ fn run_again<N: DeskName, R: Wait + Abort>(rt: &R, alloc: Global, parts: DeskPar
 fn commit_twice_at_most<N: DeskName, R: Wait + Abort>(
     rt: &R,
     alloc: Global,
-    desk: &Desk<N, UpdateLog>,
+    desk: &Desk<N>,
     seat: &mut Seat,
 ) -> u64
     requires { IsSeatOf N.book N.callers seat.old }

@@ -4,7 +4,8 @@ ghost use Rattle.clip_desk.specs.Updates.{all_heard};
 ghost use Rattle.clip_desk.specs.Locked.{IsSeatOf};
 
 use crate::desk::making::{commit, commit_four, parts_of, pop_seat, purge, register};
-use clip_desk::{Desk, DeskName, DeskParts, Nudge, Seat, UpdateLog};
+use crate::desk::types::{Desk, DeskParts, Seat};
+use clip_desk::{DeskName, Nudge};
 use clip_registry::MergeTurn;
 use crossbeam_channel::unbounded;
 use std::alloc::Global;
@@ -43,12 +44,12 @@ fn four_segments_become_one_and_a_purge_leaves_no_dead_entry(rt: HostRuntime) ->
     Ok(())
 }
 
-fn run_merge<N: DeskName, R: Wait + Abort>(rt: &R, alloc: Global, parts: DeskParts<UpdateLog>)
+fn run_merge<N: DeskName, R: Wait + Abort>(rt: &R, alloc: Global, parts: DeskParts)
     requires book { (parts.book ≡ N.book) × (parts.callers ≡ N.callers) }
     requires heard { N.heard_before ≡ all_heard parts.updates }
     requires keeps { parts.keeps ≡ N.keeps }
 {
-    let (desk, mut seats) = Desk::<N, UpdateLog>::open(parts);
+    let (desk, mut seats) = Desk::<N>::open(parts);
     match pop_seat::<N>(&mut seats) {
         Some(mut seat) => {
             commit_four(rt, alloc, &desk, &mut seat);
@@ -73,12 +74,12 @@ fn nudges_are_served_until_stop(rt: HostRuntime) -> Result<(), Fail> {
     Ok(())
 }
 
-fn run_nudges<N: DeskName, R: Wait + Abort>(rt: &R, alloc: Global, parts: DeskParts<UpdateLog>)
+fn run_nudges<N: DeskName, R: Wait + Abort>(rt: &R, alloc: Global, parts: DeskParts)
     requires book { (parts.book ≡ N.book) × (parts.callers ≡ N.callers) }
     requires heard { N.heard_before ≡ all_heard parts.updates }
     requires keeps { parts.keeps ≡ N.keeps }
 {
-    let (desk, mut seats) = Desk::<N, UpdateLog>::open(parts);
+    let (desk, mut seats) = Desk::<N>::open(parts);
     match pop_seat::<N>(&mut seats) {
         Some(mut seat) => {
             commit_four(rt, alloc, &desk, &mut seat);
@@ -91,7 +92,7 @@ fn run_nudges<N: DeskName, R: Wait + Abort>(rt: &R, alloc: Global, parts: DeskPa
 }
 
 /// Serves a channel that holds `Merge` and `Stop`.
-fn serve_two<N: DeskName, R: Wait + Abort>(rt: &R, alloc: Global, desk: &Desk<N, UpdateLog>) {
+fn serve_two<N: DeskName, R: Wait + Abort>(rt: &R, alloc: Global, desk: &Desk<N>) {
     let (sender, nudges) = match unbounded(alloc) {
         Ok(ends) => ends,
         Err(_) => panic!(rt; "no channel"),

@@ -6,9 +6,8 @@ ghost use Rattle.clip_desk.specs.Updates.{all_heard};
 ghost use Rattle.clip_desk.specs.Locked.{IsSeatOf, AreSeatsOf};
 
 use crate::desk::making::{commit, parts_of, pop_seat, register};
-use clip_desk::{
-    Closed, Desk, DeskName, DeskParts, NewRefused, Refused, Seat, SeatMissing, UpdateLog,
-};
+use crate::desk::types::{Closed, Desk, DeskParts, Seat};
+use clip_desk::{DeskName, NewRefused, Refused, SeatMissing};
 use clip_standing::Command;
 use std::alloc::Global;
 use std::marker::Brand;
@@ -32,13 +31,13 @@ fn a_desk_is_closed_with_all_its_seats(rt: HostRuntime) -> Result<(), Fail> {
     Ok(())
 }
 
-fn run_close<N: DeskName, R: Wait + Abort>(rt: &R, alloc: Global, parts: DeskParts<UpdateLog>)
+fn run_close<N: DeskName, R: Wait + Abort>(rt: &R, alloc: Global, parts: DeskParts)
     requires book { (parts.book ≡ N.book) × (parts.callers ≡ N.callers) }
     requires heard { N.heard_before ≡ all_heard parts.updates }
     requires keeps { parts.keeps ≡ N.keeps }
 {
     let none = Vec::new(alloc);
-    let (desk, mut seats) = Desk::<N, UpdateLog>::open(parts);
+    let (desk, mut seats) = Desk::<N>::open(parts);
     let Some(mut seat) = pop_seat::<N>(&mut seats) else {
         panic!(rt; "one seat")
     };
@@ -60,7 +59,7 @@ fn run_close<N: DeskName, R: Wait + Abort>(rt: &R, alloc: Global, parts: DeskPar
 fn commit_around_a_clear<N: DeskName, R: Wait + Abort>(
     rt: &R,
     alloc: Global,
-    desk: &Desk<N, UpdateLog>,
+    desk: &Desk<N>,
     seat: &mut Seat,
 )
     requires { IsSeatOf N.book N.callers seat.old }
@@ -72,7 +71,7 @@ fn commit_around_a_clear<N: DeskName, R: Wait + Abort>(
     commit(rt, desk, seat, register(rt, alloc, "q3", "milk"));
 }
 
-fn check_numbers<R: Abort>(rt: &R, closed: &Closed<UpdateLog>) {
+fn check_numbers<R: Abort>(rt: &R, closed: &Closed) {
     let history = closed.registrar.history();
     assert!(rt; history.len() == 4);
     for place in 0..4usize {
@@ -101,8 +100,8 @@ fn a_foreign_seat_is_refused(rt: HostRuntime) -> Result<(), Fail> {
 fn run_foreign<N: DeskName, M: DeskName, R: Wait + Abort>(
     rt: &R,
     alloc: Global,
-    parts: DeskParts<UpdateLog>,
-    others: DeskParts<UpdateLog>,
+    parts: DeskParts,
+    others: DeskParts,
 )
     requires book { (parts.book ≡ N.book) × (parts.callers ≡ N.callers) }
     requires heard { N.heard_before ≡ all_heard parts.updates }
@@ -111,8 +110,8 @@ fn run_foreign<N: DeskName, M: DeskName, R: Wait + Abort>(
     requires other_heard { M.heard_before ≡ all_heard others.updates }
     requires other_keeps { others.keeps ≡ M.keeps }
 {
-    let (desk, _) = Desk::<N, UpdateLog>::open(parts);
-    let (other, mut strangers) = Desk::<M, UpdateLog>::open(others);
+    let (desk, _) = Desk::<N>::open(parts);
+    let (other, mut strangers) = Desk::<M>::open(others);
     match pop_seat::<M>(&mut strangers) {
         Some(mut stranger) => hand_back(rt, &desk, &mut stranger, register(rt, alloc, "q1", "tea")),
         None => panic!(rt; "one seat"),
@@ -123,7 +122,7 @@ fn run_foreign<N: DeskName, M: DeskName, R: Wait + Abort>(
 
 fn hand_back<N: DeskName, R: Wait + Abort>(
     rt: &R,
-    desk: &Desk<N, UpdateLog>,
+    desk: &Desk<N>,
     stranger: &mut Seat,
     command: Command,
 )

@@ -1,7 +1,8 @@
 //! What the threads at a desk share.
 ghost use Rattle.std.specs.Prelude.{◌≡◌};
 
-use clip_desk::{Desk, DeskName, Nudge, Receipt, UpdateLog};
+use crate::desk::types::Desk;
+use clip_desk::{DeskName, Nudge, Receipt};
 use crossbeam_channel::{Receiver, Sender, unbounded};
 use std::alloc::Global;
 use std::marker::PhantomData;
@@ -40,7 +41,7 @@ pub struct Room<N: DeskName> {
     /// What all threads take memory from.
     pub alloc: Global,
     /// The desk.
-    pub desk: Desk<N, UpdateLog>,
+    pub desk: Desk<N>,
     /// Where the merger is nudged.
     pub sender: Sender<Nudge>,
     /// The nudges on their way.
@@ -62,7 +63,7 @@ fn new_way<N: DeskName, R: Abort>(rt: &R, alloc: Global) -> Way<N> {
 
 impl<N: DeskName> Room<N> {
     /// The room at a desk.
-    pub fn new<R: Abort>(rt: &R, alloc: Global, desk: Desk<N, UpdateLog>, plan: Plan) -> Room<N> {
+    pub fn new<R: Abort>(rt: &R, alloc: Global, desk: Desk<N>, plan: Plan) -> Room<N> {
         let Ok((sender, nudges)) = unbounded(alloc) else {
             panic!(rt; "no channel")
         };
@@ -78,7 +79,7 @@ impl<N: DeskName> Room<N> {
     }
 
     /// The desk, once the threads have ended.
-    pub fn into_desk(self) -> Desk<N, UpdateLog> {
+    pub fn into_desk(self) -> Desk<N> {
         let Self {
             alloc: _,
             desk,

@@ -14,6 +14,9 @@ use Rattle.std.proofs.alloc.Global.TheSendSync as global_sent
 use Rattle.std.below.std_heap.proofs.GlobalAllocator.TheSendSync as allocator_sent
 use Rattle.crossbeam_channel.specs.contracts.channel.Receiver as receiver
 use Rattle.crossbeam_channel.proofs.channel.Receiver.TheSendSync as receiver_sent
+use Rattle.clip_segment.specs.contracts.labelled_index.LabelledIndex as labelled_index
+use Rattle.clip_segment.specs.contracts.labelled_index.LabelledIndexIndex.TheImpl as index_impl
+use Rattle.clip_segment.proofs.Sent.{labelled_index_send, labelled_index_sync}
 use Rattle.clip_desk.specs.contracts.update_listener.UpdateLog as log
 use Rattle.clip_desk.specs.contracts.update_listener.UpdateLogUpdateListener.TheImpl as log_impl
 use Rattle.clip_desk.proofs.update_listener.UpdateLog.TheSendSync as log_sent
@@ -41,8 +44,10 @@ returns-in_err-nudges g c =
 pub join_mut-lines-requires-send-F : goal.join_mut-lines-requires-send-F
 join_mut-lines-requires-send-F g c κs within =
     let N = param 1 g.row.N in
-    let shared = desk.the_row N log.the_row g.N.DeskName log_impl.ghosts in
-    let synced : IsSync shared = desk_sync N log.the_row g.N.DeskName log_impl.ghosts log_sent.the_send in
+    let shared = desk.the_row N labelled_index.the_row log.the_row g.N.DeskName index_impl.ghosts log_impl.ghosts in
+    let synced : IsSync shared =
+    desk_sync labelled_index.the_row index_impl.ghosts labelled_index_send labelled_index_sync
+    N log.the_row g.N.DeskName log_impl.ghosts log_sent.the_send in
     let ends = receiver.the_row nudge.the_row global.the_row global_allocator.ghosts in
     let desk_row = (shr_ref_field (record { mir = named 8; lft = κs.1.1.1.1.1.1.1.1.0 }) shared tt).row in
     let rt = (shr_ref_field (record { mir = named 9; lft = κs.1.1.1.1.1.1.1.1.1.0 }) (param 0 g.row.R) tt).row in

@@ -10,11 +10,15 @@ use Rattle.std.proofs.alloc.Global.TheSendSync as global_sent
 use Rattle.std.below.std_heap.proofs.GlobalAllocator.TheSendSync as allocator_sent
 use Rattle.crossbeam_channel.proofs.channel.Sender.TheSendSync as sender_sent
 use Rattle.crossbeam_channel.proofs.channel.Receiver.TheSendSync as receiver_sent
+use Rattle.clip_segment.specs.contracts.labelled_index.LabelledIndex as labelled_index
+use Rattle.clip_segment.specs.contracts.labelled_index.LabelledIndexIndex.TheImpl as index_impl
+use Rattle.clip_segment.proofs.Sent.{labelled_index_send, labelled_index_sync}
 use Rattle.clip_desk.specs.contracts.update_listener.UpdateLog as log
 use Rattle.clip_desk.specs.contracts.update_listener.UpdateLogUpdateListener.TheImpl as log_impl
 use Rattle.clip_desk.proofs.update_listener.UpdateLog.TheSendSync as log_sent
 use Rattle.clip_desk.specs.declared.locked.DeskName.{Ghosts}
-use Rattle.clip_desk.proofs.Sent.{desk_sync}
+use Rattle.clip_desk.specs.contracts.seat.Seat as seat
+use Rattle.clip_desk.proofs.Sent as sent
 use Rattle.clip_desk.proofs.desk_merging.Nudge.TheSendSync as nudge_sent
 use Rattle.clip_desk.proofs.seat.Receipt.TheSendSync as receipt_sent
 use Rattle.tests.specs.contracts.desk.room.Handed as handed
@@ -31,6 +35,12 @@ ruleset global = (
   nudge_sent.the_sync,
 )
 
+abbrev pub seat_row : RattleType
+seat_row = seat.the_row labelled_index.the_row index_impl.ghosts
+
+pub seat_send : IsSend seat_row
+seat_send = sent.seat_send labelled_index.the_row index_impl.ghosts labelled_index_send labelled_index_sync
+
 module _ (N : RattleType) (g : Ghosts N.Denot) where
   handed_send : IsSend (handed.the_row N g)
   handed_send = declared_send (handed.the_type N g) (receipt_sent.the_send, (search sendable, tt))
@@ -45,7 +55,8 @@ module _ (N : RattleType) (g : Ghosts N.Denot) where
   room_sync = declared_sync (room.the_type N g) (
     search global,
     (
-      desk_sync N log.the_row g log_impl.ghosts log_sent.the_send,
+      sent.desk_sync labelled_index.the_row index_impl.ghosts labelled_index_send labelled_index_sync N log.the_row g
+          log_impl.ghosts log_sent.the_send,
       (
         search (global, sender_sent.the_sync) depth 20,
         (

@@ -3,10 +3,8 @@ use denote.Exit.{no}
 use denote.Param.{param}
 use denote.Param.Send.{IsSync, param_send, arg_send, sendable}
 use denote.Struct.Field.{shr_ref_field}
-use Rattle.clip_desk.specs.contracts.seat.Seat as seat
-use Rattle.clip_desk.proofs.Sent.{seat_send}
 use Rattle.tests.specs.contracts.desk.room.Room as room
-use Rattle.tests.proofs.desk.four_threads.Shared.{room_sync, three_send}
+use Rattle.tests.proofs.desk.four_threads.Shared.{room_sync, seat_row, seat_send, three_send}
 use Rattle.tests.proofs.desk.four_threads.run_last.Goals as goal
 
 pub join-requires-send-F : goal.join-requires-send-F
@@ -17,7 +15,7 @@ join-requires-send-F g c κs within =
     let shared = (shr_ref_field (record { mir = named 7; lft = κs.1.1.1.1.1.1.1.0 }) (room.the_row N g.N.DeskName)
     tt).row in
     param_send 1 _ (arg_send _ no _
-    (three_send _ rt shared seat.the_row (search (sendable, c.type_bounds.sync-R)) (search (sendable, synced))
+    (three_send _ rt shared seat_row (search (sendable, c.type_bounds.sync-R)) (search (sendable, synced))
     seat_send))
 
 pub join-requires-send-A : goal.join-requires-send-A

@@ -1,0 +1,12 @@
+//! The desk of a run.
+use clip_desk::UpdateLog;
+use clip_segment::LabelledIndex;
+
+/// A desk of a registry over the index by which articles are matched.
+pub(crate) type Desk<N> = clip_desk::Desk<N, LabelledIndex, UpdateLog>;
+
+/// A seat of such a desk.
+pub(crate) type Seat = clip_desk::Seat<LabelledIndex>;
+
+/// The parts of such a desk.
+pub(crate) type DeskParts = clip_desk::DeskParts<LabelledIndex, UpdateLog>;
