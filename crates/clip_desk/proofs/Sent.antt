@@ -16,7 +16,7 @@ use Rattle.left_right.proofs.writer.Writer.TheSendSync as writer_sent
 use Rattle.clip_indexed.specs.declared.index.Index as index
 use Rattle.clip_registry.proofs.Sent.{registrar_send, view_is_send, view_is_sync}
 use Rattle.clip_desk.proofs.chronicle.SeenHistory.TheSendSync as seen_history_sent
-use Rattle.clip_desk.proofs.chronicle.Head.TheSendSync as head_sent
+use Rattle.clip_desk.proofs.chronicle.LengthWord.TheSendSync as head_sent
 use Rattle.clip_desk.proofs.rights.Right.TheSendSync as right_sent
 use Rattle.clip_desk.specs.contracts.published.Published as published
 use Rattle.clip_desk.specs.contracts.published.Published.TheInside as published_inside

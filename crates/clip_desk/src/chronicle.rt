@@ -1,6 +1,6 @@
 //! The history as a token that can be copied: what was seen of it stays a beginning of it for good.
 //!
-//!     the history   r1 r2 d1 r3      its word, `Head`, is 4
+//!     the history   r1 r2 d1 r3      its word, `LengthWord`, is 4
 //!     seen before   r1 r2            a `SeenHistory` of count 2: a beginning of it, now and later
 //!     seen now      r1 r2 d1 r3      what `follow` made of it, by the right of the caller who gave r3
 //!
@@ -88,11 +88,11 @@ impl Plain<HistoryEntry, LoggedEntry, u64> for Add {
 
 /// The word of a chronicle: the length of its history. Only `SeenHistory::follow` changes it.
 #[derive(Drop)]
-pub(crate) struct Head {
+pub(crate) struct LengthWord {
     word: Word<LoggedEntry, u64, Law>,
 }
 
-impl Model for Head {
+impl Model for LengthWord {
     ghost use Rattle.logbook.specs.Pages.{Named, named_coded};
 
     ghost Value = { Named };
@@ -113,13 +113,13 @@ pub(crate) struct SeenHistory {
 }
 
 /// The word of a new chronicle, its empty history, and the rights to add to it. Constant time.
-pub(crate) fn open_chronicle() -> (Head, SeenHistory, Rights)
+pub(crate) fn open_chronicle() -> (LengthWord, SeenHistory, Rights)
     ensures head { result.0 ≡ head_of result.1.seen.book }
     ensures empty { result.1.seen.log ≡ [] }
     ensures rights { result.2 ≡ record { book = result.1.seen.book; given = 0 } }
 {
     let (seen, mut first, _second) = Seen::open(Start::alone(), 0, 0);
-    let head = Head {
+    let head = LengthWord {
         word: Word::tracked(0, &mut first),
     };
     let rights = Rights::new(&seen);
@@ -151,7 +151,7 @@ impl SeenHistory {
 
     /// Adds an entry to all that was seen, and says whether it did: it did not where the history is longer. It asks for
     /// the right of the entry's caller. Constant time.
-    fn add(&mut self, head: &Head, entry: &HistoryEntry, right: &mut Right) -> bool
+    fn add(&mut self, head: &LengthWord, entry: &HistoryEntry, right: &mut Right) -> bool
         requires head { head.now ≡ head_of self.old.seen.book }
         requires room { length self.old.seen.log < 2 ^ 62 }
         requires right { (right.old.book ≡ self.old.seen.book)
@@ -184,7 +184,7 @@ impl SeenHistory {
     /// did. Constant time.
     pub(crate) fn follow<I: Index>(
         &mut self,
-        head: &Head,
+        head: &LengthWord,
         registrar: &Registrar<I>,
         right: &mut Right,
     ) -> bool

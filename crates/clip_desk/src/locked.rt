@@ -10,7 +10,7 @@ ghost use Rattle.clip_desk.specs.Callers.{IsBy};
 ghost use Rattle.clip_desk.specs.Updates.{AllFollow, AreTold, Purged, event_of, heard_by};
 ghost use Rattle.clip_desk.specs.Locked.{IsSettled, IsSeatOf};
 
-use crate::chronicle::{Head, SeenHistory};
+use crate::chronicle::{LengthWord, SeenHistory};
 use crate::ends::show_surely;
 use crate::events::Update;
 use crate::growing::{Grown, grow};
@@ -65,7 +65,7 @@ where
 {
     pub(crate) registrar: Registrar<I>,
     pub(crate) writer: WriterEnd<I>,
-    pub(crate) head: Head,
+    pub(crate) head: LengthWord,
     pub(crate) seen_history: SeenHistory,
     pub(crate) updates: UpdateListeners<L>,
     purges: u64,
@@ -114,7 +114,7 @@ impl<N: DeskName, I: Index, L: UpdateListener> Locked<N, I, L> {
     pub(crate) fn new(
         registrar: Registrar<I>,
         writer: WriterEnd<I>,
-        head: Head,
+        head: LengthWord,
         seen_history: SeenHistory,
         updates: UpdateListeners<L>,
         alloc: Global,

@@ -6,7 +6,7 @@ ghost use Rattle.clip_desk.specs.Ends.{IsOf, seen_keeps};
 ghost use Rattle.clip_desk.specs.Seats.{new_seat, AreSeated};
 ghost use Rattle.clip_desk.specs.Locked.{IsSettled};
 
-use crate::chronicle::{Head, SeenHistory, open_chronicle};
+use crate::chronicle::{LengthWord, SeenHistory, open_chronicle};
 use crate::ends::publish;
 use crate::published::{Handover, Published, WriterEnd};
 use crate::refused::NewRefused;
@@ -31,7 +31,7 @@ where
 {
     pub(crate) registrar: Registrar<I>,
     pub(crate) writer: WriterEnd<I>,
-    pub(crate) head: Head,
+    pub(crate) head: LengthWord,
     pub(crate) seen_history: SeenHistory,
     pub(crate) seats: Vec<Seat<I>>,
     pub(crate) updates: UpdateListeners<L>,

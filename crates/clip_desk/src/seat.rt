@@ -10,7 +10,7 @@ ghost use Rattle.clip_desk.specs.Ends.{IsOf, seen_keeps};
 ghost use Rattle.clip_desk.specs.Purges.{IsPurgedAt};
 ghost use Rattle.clip_desk.specs.Seats.{longer};
 
-use crate::chronicle::{Head, SeenHistory};
+use crate::chronicle::{LengthWord, SeenHistory};
 use crate::ends::read_here;
 use crate::published::{Published, ReaderEnd};
 use crate::rights::Right;
@@ -299,7 +299,7 @@ impl<I: Index> Seat<I> {
     pub(crate) fn add(
         &mut self,
         seen_history: &mut SeenHistory,
-        head: &Head,
+        head: &LengthWord,
         registrar: &Registrar<I>,
     ) -> bool
         requires desk { (seen_history.old.seen.book ≡ self.old.book) × (head.now ≡ head_of self.old.book) }

@@ -43,7 +43,7 @@ fn found_of_each(
 }
 
 /// The text of the reply to the line of this number, which matches these articles.
-fn matched(
+fn match_reply(
     alloc: Global,
     view: &View,
     listeners: &mut House,
@@ -84,7 +84,7 @@ pub(crate) fn answer(
         Step::Match(drafts) => {
             let articles = articles_of(alloc, pool, &drafts)?;
             let view = owned.registrar.view()?;
-            matched(alloc, &view, &mut listeners, form, number, &articles)
+            match_reply(alloc, &view, &mut listeners, form, number, &articles)
         }
     }
 }

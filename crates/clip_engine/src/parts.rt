@@ -128,7 +128,7 @@ fn bytes_of_told(alloc: Global, asked: u64, all: &[Told<'_>]) -> Result<Vec<u8>,
 }
 
 /// How many queries were tried, and what all parts tell, merged, as bytes.
-fn merged(alloc: Global, asked: u64, parts: &[Part<'_>]) -> Result<Vec<u8>, NoMemory>
+fn merge_parts(alloc: Global, asked: u64, parts: &[Part<'_>]) -> Result<Vec<u8>, NoMemory>
     requires { NoneFalls id_of (map told_in parts.now) }
     ensures { IfOk result (λ bytes. bytes.items
         ≡ number_bytes asked ++ all_bytes (merged_all id_of (map told_in parts.now))) }
@@ -154,7 +154,7 @@ pub(crate) fn gathered(alloc: Global, parts: &[Part<'_>]) -> Result<Vec<u8>, u32
     if !are_in_order(parts) {
         return Err(code::ORDER);
     }
-    match merged(alloc, asked, parts) {
+    match merge_parts(alloc, asked, parts) {
         Ok(bytes) => Ok(bytes),
         Err(NoMemory) => Err(code::NO_MEMORY),
     }

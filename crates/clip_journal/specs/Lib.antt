@@ -1,5 +1,5 @@
+pub mod Contents
 pub mod Entries
-pub mod Found
 pub mod Kept
 pub mod Length
 pub mod Parts

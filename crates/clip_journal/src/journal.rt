@@ -4,9 +4,9 @@ ghost use Rattle.std.specs.Prelude.{IfOk, IfErr, OnOk, IsErrOf};
 ghost use Rattle.clip_journal.specs.Entries.{link_behind, first_link};
 ghost use Rattle.clip_journal.specs.Kept.{Kept, bytes_of, said_by, says, compacted};
 
+use crate::contents::Contents;
 use crate::entry::{Link, put_entry};
 use crate::fault::ReadFault;
-use crate::found::Found;
 use crate::journal_fault::{JournalFault, OpenFault};
 use crate::length::are_long;
 use crate::reading::{CHANGES_END, FIRST_LINK, read_back};
@@ -73,12 +73,12 @@ fn are_same(a: &Link, b: &Link) -> bool
 impl<S: Store> Journal<S> {
     ghost use Rattle.clip_journal.specs.Kept.{with_command, AreReadAgain};
     ghost use Rattle.clip_journal.specs.Length.{are_long};
-    ghost use Rattle.clip_journal.specs.Found.{kept_of};
+    ghost use Rattle.clip_journal.specs.Contents.{kept_of};
     ghost use Rattle.clip_journal.specs.Stop.{Only, Elapses, LeavesOnly};
     ghost use Rattle.clip_journal.specs.Stands.{IsFront, Stands};
 
     /// The journal of a store that `open` gave back, with what it found there. Constant time.
-    pub fn over(store: S, found: &Found) -> Journal<S>
+    pub fn over(store: S, found: &Contents) -> Journal<S>
         ensures { S.seen store ≡ bytes_of (kept_of found.now) → Only (S.seen store) (S.may_leave store)
             → Stands S.seen S.may_leave result (kept_of found.now) (length (kept_of found.now).since) }
     {

@@ -1,9 +1,9 @@
 //! A journal of accepted commands over a store that may fail, and over a machine that may stop at any moment.
 #![tactic(auto)]
 
+mod contents;
 mod entry;
 mod fault;
-mod found;
 mod journal;
 mod journal_fault;
 mod length;
@@ -11,8 +11,8 @@ mod opening;
 mod reading;
 mod store;
 
+pub use contents::Contents;
 pub use fault::ReadFault;
-pub use found::Found;
 pub use journal::Journal;
 pub use journal_fault::{JournalFault, OpenFault};
 pub use opening::{begin, open};

@@ -3,11 +3,11 @@ ghost use Rattle.std.specs.Prelude.{◌≡◌, ◌⊎◌, ◌≤◌, ℕ, List, 
 ghost use Rattle.clip_journal.specs.Kept.{Kept, Reads, bytes_of, compacted};
 ghost use Rattle.clip_journal.specs.Parts.{IsBroken};
 ghost use Rattle.clip_journal.specs.declared.fault.ReadFault.{ReadFault as Fault};
-ghost use Rattle.clip_journal.specs.Found.{kept_of, torn_of};
+ghost use Rattle.clip_journal.specs.Contents.{kept_of, torn_of};
 ghost use Rattle.clip_journal.specs.Stop.{Only, Elapses, LeavesOnly};
 ghost use Rattle.clip_journal.specs.Stands.{IsWholeOf};
 
-use crate::found::Found;
+use crate::contents::Contents;
 use crate::journal::spell;
 use crate::journal_fault::{JournalFault, OpenFault};
 use crate::reading::read_back;
@@ -57,7 +57,7 @@ fn settle<S: Store>(store: &mut S, bytes: &[u8], whole: usize) -> Result<(), Sto
 ///
 /// `Read` with `Broken` where what the store has is no journal, or with `NoMemory`: nothing is changed then. `Store`
 /// where the store failed.
-pub fn open<S: Store>(alloc: Global, store: &mut S) -> Result<Found, OpenFault>
+pub fn open<S: Store>(alloc: Global, store: &mut S) -> Result<Contents, OpenFault>
     ensures found { IfOk result (λ found. Reads (S.seen store.old) (kept_of found) (torn_of found)) }
     ensures whole { IfOk result (λ found. S.seen store.new ≡ bytes_of (kept_of found)) }
     ensures durable { OnOk result (Only (S.seen store.new) (S.may_leave store.new)) }

@@ -4,11 +4,11 @@ ghost use Rattle.std.specs.Prelude.{IfOk, IfErr, IfSome, IfNone};
 ghost use Rattle.clip_journal.specs.Entries.{numbers};
 ghost use Rattle.clip_journal.specs.Kept.{Kept, Reads, kept_in, said_by, says};
 ghost use Rattle.clip_journal.specs.Parts.{Parts, IsWrongFrom, IsBroken};
-ghost use Rattle.clip_journal.specs.Found.{kept_of, torn_of};
+ghost use Rattle.clip_journal.specs.Contents.{kept_of, torn_of};
 
+use crate::contents::Contents;
 use crate::entry::{Link, NoEntry, entry_at, number_at};
 use crate::fault::ReadFault;
-use crate::found::Found;
 use std::alloc::Global;
 
 /// The bytes of what a journal's first entry says: how much it keeps.
@@ -98,7 +98,7 @@ fn opening_of(said: &[Vec<u8>]) -> Option<(u64, usize)>
 ///
 /// `Broken` where no journal has these bytes, even with less than an entry at its end; up to its byte whole entries
 /// stand. `NoMemory` where an allocation failed.
-pub fn read_back(alloc: Global, bytes: &[u8]) -> Result<Found, ReadFault>
+pub fn read_back(alloc: Global, bytes: &[u8]) -> Result<Contents, ReadFault>
     ensures found { IfOk result (λ found. Reads bytes.now (kept_of found) (torn_of found)) }
     ensures only { (kept : Kept) (torn : List ℕ) → Reads bytes.now kept torn
         → IfOk result (λ found. (kept_of found ≡ kept) × (torn_of found ≡ torn)) }
@@ -110,7 +110,7 @@ pub fn read_back(alloc: Global, bytes: &[u8]) -> Result<Found, ReadFault>
         None => return Err(ReadFault::Broken(at)),
     };
     let torn = Vec::from_slice(alloc, &bytes[at..])?;
-    Ok(Found {
+    Ok(Contents {
         changes,
         live,
         said,

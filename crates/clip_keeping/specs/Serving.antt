@@ -8,7 +8,7 @@ use Rattle.clip_front.specs.Devices.{Devices}
 use Rattle.clip_front.specs.Outcome.{names_in, OfKept, GivesAllFrom}
 use Rattle.clip_front.specs.declared.settings.Settings.{Settings}
 use Rattle.clip_front.specs.declared.session.Ended.{Ended}
-use Rattle.clip_journal.specs.Found.{kept_of}
+use Rattle.clip_journal.specs.Contents.{kept_of}
 use Rattle.clip_journal.specs.Kept.{Kept}
 use Rattle.clip_journal.specs.declared.store.Store as store
 use Rattle.clip_ahead.specs.Handing.{WasAhead}

@@ -10,7 +10,7 @@ use crate::live::live_lines;
 use crate::opening::changes_in;
 use crate::printing::print_lines;
 use crate::words::Look;
-use clip_journal::{Found, read_back};
+use clip_journal::{Contents, read_back};
 use clip_listen::Audience;
 use clip_stream::{RunFault, Sink, StdSink};
 use std::alloc::Global;
@@ -24,7 +24,7 @@ struct Looked {
     /// How many bytes the file has.
     bytes: usize,
     /// What it keeps; nothing where the file is empty, as a stop leaves it that comes before a journal is begun.
-    found: Option<Found>,
+    found: Option<Contents>,
 }
 
 /// Reads the file of a folder's journal, which another process may have open for more.
@@ -107,7 +107,7 @@ fn print_check<R: Print>(rt: &R, looked: &Looked) -> io::Result<()> {
 }
 
 /// Where what was printed was taken.
-fn heard(answer: io::Result<()>) -> Result<(), Fault> {
+fn taken_or_unheard(answer: io::Result<()>) -> Result<(), Fault> {
     match answer {
         Ok(()) => Ok(()),
         Err(_) => Err(Fault::Unheard),
@@ -128,7 +128,7 @@ pub fn print_looked<R: Print + Files<File = File> + AllocGlobal, A: Audience>(
     let looked = look(rt, rt.alloc(), folder)?;
     match how {
         Look::Dump => print_dump(rt, audience, looked),
-        Look::Check => heard(print_check(rt, &looked)),
-        Look::Stats => heard(print_stats(rt, &looked)),
+        Look::Check => taken_or_unheard(print_check(rt, &looked)),
+        Look::Stats => taken_or_unheard(print_stats(rt, &looked)),
     }
 }

@@ -1,19 +1,19 @@
 //! A store's journal, compacted where it is long.
 ghost use Rattle.std.specs.Prelude.{◌≡◌, ◌+◌, length, IfOk};
 ghost use Rattle.clip_front.specs.Outcome.{names_in};
-ghost use Rattle.clip_journal.specs.Found.{kept_of};
+ghost use Rattle.clip_journal.specs.Contents.{kept_of};
 ghost use Rattle.clip_journal.specs.Stands.{Stands};
 ghost use Rattle.clip_keeping.specs.Opening.{GoesOnFrom};
 
 use crate::fault::Fault;
 use crate::live::live_lines;
-use clip_journal::{Found, Store};
+use clip_journal::{Contents, Store};
 use clip_kept::{Opened, open_kept};
 use clip_listen::Audience;
 use std::alloc::Global;
 
 /// How many changes a journal keeps: those before it was written anew, and those since.
-pub fn changes_in(found: &Found) -> u64
+pub fn changes_in(found: &Contents) -> u64
     ensures { result ≡ (kept_of found.now).changes + length (kept_of found.now).since }
 {
     found.changes() + found.since().len() as u64

@@ -53,7 +53,7 @@ fn names_folder(word: &str) -> bool
 }
 
 /// What is asked for where no run is.
-fn shown(words: &[String]) -> Option<Task>
+fn task_of_word(words: &[String]) -> Option<Task>
     ensures { result ≡ shown_in words.now }
 {
     let [word] = words else {
@@ -111,7 +111,7 @@ fn task_of(alloc: Global, words: Vec<String>) -> Result<Option<Task>, NoMemory>
     ensures task { IfOk result (λ task. task ≡ task_of words.items) }
     ensures few { IfOk result (λ task. IfSome task HasFewWorkers) }
 {
-    if let Some(task) = shown(&words) {
+    if let Some(task) = task_of_word(&words) {
         return Ok(Some(task));
     }
     let words = behind_run(alloc, words)?;

@@ -10,7 +10,7 @@ use Rattle.clip_stream.specs.declared.fault.RunFault.{RunFault}
 use Rattle.clip_stream.specs.declared.fault.RunFault.TheVariants as run
 use Rattle.clip_stream.proofs.LinesRead.{of_input}
 use Rattle.clip_journal.specs.Kept.{Kept}
-use Rattle.clip_journal.specs.Found.{kept_of}
+use Rattle.clip_journal.specs.Contents.{kept_of}
 use Rattle.clip_journal.specs.Stands.{Stands, IsFront}
 use Rattle.clip_journal.specs.declared.journal.Journal.{Journal}
 use Rattle.clip_journal.specs.declared.journal_fault.JournalFault.{JournalFault}

@@ -2,7 +2,7 @@
 ghost use Rattle.std.specs.Prelude.{IfOk};
 ghost use Rattle.clip_kept.specs.Opened.{IsOpened};
 
-use clip_journal::{Found, Journal, OpenFault, Store, open};
+use clip_journal::{Contents, Journal, OpenFault, Store, open};
 use std::alloc::Global;
 
 /// A journal that takes more, and what was found in its store.
@@ -11,7 +11,7 @@ pub struct Opened<S: Store> {
     /// The journal.
     pub journal: Journal<S>,
     /// What it kept as it was opened.
-    pub found: Found,
+    pub found: Contents,
 }
 
 /// Opens a store's journal. What stood torn at the store's end is cut off, and given in `found`.

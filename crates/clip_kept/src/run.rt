@@ -1,7 +1,7 @@
 //! The run whose changes survive.
 ghost use Rattle.std.specs.Prelude.{◌≡◌, ◌≤◌, ℕ, List, length, [], true, IfOk, OnOk, OnErr};
 ghost use Rattle.clip_stream.specs.Lines.{lines_of, OfInput, OfLinesRead};
-ghost use Rattle.clip_journal.specs.Found.{kept_of};
+ghost use Rattle.clip_journal.specs.Contents.{kept_of};
 ghost use Rattle.clip_journal.specs.Stands.{Stands};
 ghost use Rattle.clip_front.specs.Devices.{AreFresh, devices_at};
 ghost use Rattle.clip_front.specs.Outcome.{names_in, OfKept, GivesAllFrom, GivesFrontFrom, GivesLinesFrom};

@@ -11,12 +11,12 @@ returns-clause-answers c =
     let old = c.args.owned.now.registrar.history in let new = c.take_line.new.registry.registrar.history in
     let taken = subst (λ t. Takes (names_in house) old new c.args.number c.args.line.now t) c.in-Match.is
     c.in_ok-text.ensures.taken in
-    IfOk-weaker c.matched.result _ _
+    IfOk-weaker c.match_reply.result _ _
     (λ text printed. matched_at c.args.form c.args.number c.args.line.now text.items old new
     c.in_ok-view-in-Match.view.history c.deref-in-Match.result.now c.in-Match.drafts.items taken
     (ap (λ s. s.history) c.in_ok-view-in-Match.ensures)
     (c.deref-in-Match.ensures.value ∙ c.in_ok-articles-in-Match.ensures ∙ c.deref.ensures.value) printed)
-    c.matched.ensures
+    c.match_reply.ensures
 
 pub returns-clause-purges : goal.returns-clause-purges
-returns-clause-purges c = if_ok c.matched.result c.in_ok-text.ensures.purged
+returns-clause-purges c = if_ok c.match_reply.result c.in_ok-text.ensures.purged

@@ -3,7 +3,7 @@ use Rattle.std.proofs.Common.{length-append}
 use Rattle.std.proofs.lemmas.Result.{err_from_is_err_and}
 use Rattle.clip_journal.specs.Kept.{Reads, bytes_of}
 use Rattle.clip_journal.specs.Parts.{IsBroken}
-use Rattle.clip_journal.specs.Found.{kept_of, torn_of}
+use Rattle.clip_journal.specs.Contents.{kept_of, torn_of}
 use Rattle.clip_journal.specs.Stands.{IsWholeOf}
 use Rattle.clip_journal.specs.Stop.{LeavesOnly}
 use Rattle.clip_journal.specs.declared.journal_fault.OpenFault.TheVariants as opening

@@ -1,6 +1,6 @@
 use Rattle.std.proofs.Common.{sym, ap, ◌∙◌}
 use Rattle.clip_journal.specs.Entries.{link_behind, first_link}
-use Rattle.clip_journal.specs.Found.{kept_of}
+use Rattle.clip_journal.specs.Contents.{kept_of}
 use Rattle.clip_journal.proofs.journal.Journal.lines_again.Goals as goal
 
 pub returns : goal.returns

@@ -8,7 +8,7 @@ use crate::length::are_long;
 
 /// What a journal keeps, and what stands torn behind it.
 #[derive(Drop)]
-pub struct Found {
+pub struct Contents {
     pub(crate) changes: u64,
     pub(crate) live: usize,
     pub(crate) said: Vec<Vec<u8>>,
@@ -20,8 +20,8 @@ pub struct Found {
     ghost linked: { link ≡ link_behind first_link 0 (says said.items) },
 }
 
-impl Found {
-    ghost use Rattle.clip_journal.specs.Found.{kept_of, torn_of};
+impl Contents {
+    ghost use Rattle.clip_journal.specs.Contents.{kept_of, torn_of};
     ghost use Rattle.clip_journal.specs.Length.{is_long};
 
     /// How many commands were accepted before the journal was written anew. Constant time.
@@ -50,7 +50,7 @@ impl Found {
     pub fn into_lines(self) -> Vec<Vec<u8>>
         ensures { says result.items ≡ (kept_of self).live ++ (kept_of self).since }
     {
-        let Found { mut said, .. } = self;
+        let Contents { mut said, .. } = self;
         let _opening = said.remove(0);
         said
     }

@@ -1,7 +1,7 @@
 use Rattle.std.proofs.Common.{◌++◌, drop, take, sym, ap, ◌∙◌}
 use Rattle.std.proofs.lemmas.List.{drop-map, drop-drop, take-append-drop}
 use Rattle.clip_journal.specs.Kept.{says}
-use Rattle.clip_journal.proofs.found.Found.into_lines.Goals as goal
+use Rattle.clip_journal.proofs.contents.Contents.into_lines.Goals as goal
 
 pub returns : goal.returns
 returns c =

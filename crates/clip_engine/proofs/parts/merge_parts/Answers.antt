@@ -10,7 +10,7 @@ use Rattle.clip_engine.specs.Found.{number_bytes}
 use Rattle.clip_engine.specs.Gathered.{all_bytes, id_of, told_in, told_of}
 use Rattle.clip_engine.specs.declared.parts.Part.{Part}
 use Rattle.clip_engine.specs.declared.parts.Told.{Told}
-use Rattle.clip_engine.proofs.parts.merged.Goals as goal
+use Rattle.clip_engine.proofs.parts.merge_parts.Goals as goal
 
 -- the lists, read as ids with what goes with them, are what the parts tell
 lists_told : (lists : List (VecDeque Told Global)) (parts : List Part)

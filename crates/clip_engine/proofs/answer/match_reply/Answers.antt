@@ -6,7 +6,7 @@ use Rattle.clip_front.specs.Steps.Found.{IsFor, found_text}
 use Rattle.clip_run.proofs.Found.{text-alerts_due}
 use Rattle.clip_engine.specs.Engine.{house}
 use Rattle.clip_engine.proofs.Telling.{both}
-use Rattle.clip_engine.proofs.answer.matched.Goals as goal
+use Rattle.clip_engine.proofs.answer.match_reply.Goals as goal
 
 pub deliver_found-requires : goal.deliver_found-requires
 deliver_found-requires c =
