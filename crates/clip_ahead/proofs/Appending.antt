@@ -35,8 +35,9 @@ front_further kept more safe left f =
     }
 
 -- fewer are sure
-less_safe : (kept : Kept) (safe less : ℕ) (left : List ℕ) → less ≤ safe → IsFront kept safe left → IsFront kept less left
-less_safe kept safe less left le f = record {
+less_safe : (kept : Kept) (safe fewer : ℕ) (left : List ℕ) → fewer ≤ safe → IsFront kept safe left
+    → IsFront kept fewer left
+less_safe kept safe fewer left le f = record {
   many = f.many;
   torn = f.torn;
   least = omega (arith, le, f.least);

@@ -24,7 +24,9 @@ use Rattle.clip_ahead.proofs.Times.{time_none, time_on}
 pub feed_parts : (rest piece after : List ℕ) (at : ℕ) → FeedsAt rest at → piece ≡ take at rest
     → after ≡ drop (at + 1) rest → rest ≡ (piece ++ 10 ∷ []) ++ after
 feed_parts rest piece after at f p a =
-    first_parts rest f.has ∙ ap (λ xs. xs ++ 10 ∷ after_line rest) (f.first ∙ sym p) ∙ ap (λ xs. piece ++ 10 ∷ xs) (f.after ∙ sym a)
+    let line = f.first ∙ sym p in
+    let behind = f.after ∙ sym a in
+    first_parts rest f.has ∙ ap (λ xs. xs ++ 10 ∷ after_line rest) line ∙ ap (λ xs. piece ++ 10 ∷ xs) behind
     ∙ sym (append_assoc piece (10 ∷ []) after)
 
 pub feed_none : (rest piece : List ℕ) (at : ℕ) → FeedsAt rest at → piece ≡ take at rest → has_feed piece ≡ false
@@ -62,7 +64,8 @@ module _ {S : Type 0} (calls : store.Ghosts S) where
       → asked ≡ false
       → changes_of (ended_lines (before ++ (piece ++ 10 ∷ []))) ≡ changes_of (ended_lines before))
       → calls.faults now.journal.store ≤ calls.faults next.journal.store
-      → TimeGoesOn calls now.journal.store next.journal.store → (later ≡ false → (asks ≡ false) × (asked ≡ false)) → Takes calls old next bytes after later
+      → TimeGoesOn calls now.journal.store next.journal.store
+      → (later ≡ false → (asks ≡ false) × (asked ≡ false)) → Takes calls old next bytes after later
   takes_line old now next bytes rest piece after at asks asked later t f p a holds unchanged faults time neither =
       let none = feed_none rest piece at f p in
       record {

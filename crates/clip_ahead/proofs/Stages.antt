@@ -283,18 +283,19 @@ module _ {S : Type 0} (StandFor : List (List ℕ) → List (List ℕ) → Type 0
       → TimeGoesOn calls old.journal.store keeper.journal.store
       → calls.faults old.journal.store ≤ calls.faults keeper.journal.store → now ≡ []
       → IsAheadAnew StandFor calls begun new now keeper met_end None
-  anew_more begun left new held bytes now old keeper met_end a consumed keeps time faults none = (
-    a.0,
-    a.1,
-    stage_on begun a.0 a.1 old.journal.store keeper.journal.store a.3.keeps.1.appended.later time a.2,
-    ahead_more calls a.0 left new held bytes now old keeper met_end a.3 consumed (keeps a.0 a.3.handed a.3.keeps.1) faults
-        none,
-  )
+  anew_more begun left new held bytes now old keeper met_end a consumed keeps time faults none =
+      let kept = keeps a.0 a.3.handed a.3.keeps.1 in (
+        a.0,
+        a.1,
+        stage_on begun a.0 a.1 old.journal.store keeper.journal.store a.3.keeps.1.appended.later time a.2,
+        ahead_more calls a.0 left new held bytes now old keeper met_end a.3 consumed kept faults none,
+      )
 
   -- ---- the journal was to be written anew
 
   held_again : (begun : Begun) (left : Option (List ℕ)) (held : List ℕ) (old new : Keeper S)
-      → (a : IsAhead calls begun left held old false None) → calls.faults old.journal.store ≤ calls.faults new.journal.store
+      → (a : IsAhead calls begun left held old false None)
+      → calls.faults old.journal.store ≤ calls.faults new.journal.store
       → Appended calls begun (ended_lines a.handed) (ended_lines a.handed) new.journal
       → new.piece.items ≡ old.piece.items → IsAhead calls begun left held new false None
   held_again begun left held old new a faults appended piece = record {
@@ -332,15 +333,17 @@ module _ {S : Type 0} (StandFor : List (List ℕ) → List (List ℕ) → Type 0
   pub anew_same : (begun : Begun) (left : Option (List ℕ)) (held : List ℕ) (old new : Keeper S)
       → IsAheadAnew StandFor calls begun left held old false None → new.journal ≡ old.journal
       → new.piece.items ≡ old.piece.items → IsAheadAnew StandFor calls begun left held new false None
-  anew_same begun left held old new a journal piece = (
-    a.0,
-    a.1,
-    subst (λ j. IsStage StandFor calls begun a.0 a.1 j.store) (sym journal) a.2,
-    held_again a.0 left held old new a.3 (subst (λ j. calls.faults old.journal.store ≤ calls.faults j.store) (sym journal)
-        (omega arith))
-        (subst (λ j. Appended calls a.0 (ended_lines a.3.handed) (ended_lines a.3.handed) j) (sym journal)
-        a.3.keeps.1.appended) piece,
-  )
+  anew_same begun left held old new a journal piece =
+      let ended = ended_lines a.3.handed in
+      let appended : Appended calls a.0 ended ended new.journal =
+      subst (λ j. Appended calls a.0 ended ended j) (sym journal) a.3.keeps.1.appended in
+      let faults : calls.faults old.journal.store ≤ calls.faults new.journal.store =
+      subst (λ j. calls.faults old.journal.store ≤ calls.faults j.store) (sym journal) (omega arith) in (
+        a.0,
+        a.1,
+        subst (λ j. IsStage StandFor calls begun a.0 a.1 j.store) (sym journal) a.2,
+        held_again a.0 left held old new a.3 faults appended piece,
+      )
 
   -- it was written anew
   pub anew_done : (begun : Begun) (left : Option (List ℕ)) (held : List ℕ) (old new : Keeper S)
@@ -491,19 +494,21 @@ module _ {S : Type 0} (StandFor : List (List ℕ) → List (List ℕ) → Type 0
   kept_in_stage : (begun stage : Begun) (past : List ℕ) (lines : List (List ℕ)) (journal : Journal S)
       → IsStage StandFor calls begun stage past journal.store → Appended calls stage lines lines journal
       → HasKept StandFor calls begun (ended_lines past ++ lines) journal
-  kept_in_stage begun stage past lines journal st a = record {
-    now = with_changes stage.kept lines;
-    comes = record {
-      rewritings = st.rewritings;
-      are = st.are;
-      more = changes_of lines;
-      changes_are = filter-append asks_change (ended_lines past) lines
-          ∙ ap (λ cs. cs ++ changes_of lines) (sym st.changes);
-      now_is = ap (λ (kept : Kept). with_commands kept (changes_of lines)) st.kept;
-    };
-    stands = a.stands;
-    fronts = fronts_of_stage begun stage past journal.store st lines lines (fronts_here calls stage lines lines journal a);
-  }
+  kept_in_stage begun stage past lines journal st a =
+      let here = fronts_here calls stage lines lines journal a in
+      record {
+        now = with_changes stage.kept lines;
+        comes = record {
+          rewritings = st.rewritings;
+          are = st.are;
+          more = changes_of lines;
+          changes_are = filter-append asks_change (ended_lines past) lines
+              ∙ ap (λ cs. cs ++ changes_of lines) (sym st.changes);
+          now_is = ap (λ (kept : Kept). with_commands kept (changes_of lines)) st.kept;
+        };
+        stands = a.stands;
+        fronts = fronts_of_stage begun stage past journal.store st lines lines here;
+      }
 
   well_ahead : (begun stage : Begun) (past : List ℕ) (left : Option (List ℕ)) (held handed : List ℕ)
       (keeper : Keeper S) (met_end : Bool) → IsStage StandFor calls begun stage past keeper.journal.store

@@ -1,6 +1,6 @@
 -- Schedules with one step more.
-use Rattle.std.proofs.Common.{◌≡◌, ℕ, Ok, Err, IfOk, Result, map, List, [], ◌∷◌, ◌++◌, length, refl, sym, ap, subst, ◌∙◌}
-use Rattle.std.proofs.Common.{inl, inr, arith}
+use Rattle.std.proofs.Common.{◌≡◌, ℕ, Ok, Err, IfOk, Result, map, List, [], ◌∷◌, ◌++◌, length}
+use Rattle.std.proofs.Common.{refl, sym, ap, subst, ◌∙◌, inl, inr, arith}
 use Rattle.std.specs.List.{zip}
 use Rattle.clip_model.proofs.Splits.{entry_split}
 use Rattle.std.proofs.lemmas.List.{length-map, map-append}

@@ -9,8 +9,6 @@ use Rattle.clip_trace.specs.Steps.Tracer.{tracer_inside}
 use Rattle.clip_trace.proofs.Numbered.{any_is, lookup_is, distinct_push}
 use Rattle.clip_trace.proofs.Refusals.{due_used, due_too_many, due_done}
 use Rattle.clip_trace.proofs.tracer.Tracer.look.Goals as goal
-use Rattle.clip_trace.proofs.tracer.Tracer.look.Goals.{then-len-ge-MOST_BATCHES-via-then-len-ge-MOST_BATCHES}
-use Rattle.clip_trace.proofs.tracer.Tracer.look.Goals.{then-len-ge-MOST_BATCHES-via-else-len-ge-MOST_BATCHES+then-len-gt-MOST_ARTICLES}
 
 pub returns-then-is_some-clause-due : goal.returns-then-is_some-clause-due
 returns-then-is_some-clause-due c =
@@ -29,10 +27,10 @@ returns-then-len-ge-MOST_BATCHES-clause-due c =
     ∙ c.if-is_some.false in
     let over : (nat_le 32 (length c.self.inside.batches.items) || nat_lt 256 (length c.args.articles.items)) ≡ true =
     elim c.then-len-ge-MOST_BATCHES.branch [
-      | then-len-ge-MOST_BATCHES-via-then-len-ge-MOST_BATCHES w ↦
+      | goal.then-len-ge-MOST_BATCHES-via-then-len-ge-MOST_BATCHES w ↦
           let many : 32 ≤ length c.self.inside.batches.items = let b = c.self.inside.batches.ok.0 in omega arith in
           ap (λ b. b || nat_lt 256 (length c.args.articles.items)) (le-leb _ _ many)
-      | then-len-ge-MOST_BATCHES-via-else-len-ge-MOST_BATCHES+then-len-gt-MOST_ARTICLES w ↦
+      | goal.then-len-ge-MOST_BATCHES-via-else-len-ge-MOST_BATCHES+then-len-gt-MOST_ARTICLES w ↦
           let long : 256 < length c.args.articles.items = let b = c.args.articles.ok.0 in omega arith in
           ap (λ b. nat_le 32 (length c.self.inside.batches.items) || b) (lt-ltb _ _ long) ∙ or_true _
     ] in
