@@ -1,6 +1,6 @@
 -- Texts that lie one behind another.
-use Rattle.std.proofs.Common.{◌≡◌, ℕ, zero, suc, ◌-◌, ◌<◌, ◌≤◌, ◌∷◌, [], ◌++◌, List, Some, None, length, take, drop, get_or, slice_get}
-use Rattle.std.proofs.Common.{sym, ap, subst, ◌∙◌, arith, length-append}
+use Rattle.std.proofs.Common.{◌≡◌, ℕ, zero, suc, ◌-◌, ◌<◌, ◌≤◌, ◌∷◌, [], ◌++◌, List, Some, None, length, take}
+use Rattle.std.proofs.Common.{drop, get_or, slice_get, sym, ap, subst, ◌∙◌, arith, length-append}
 use Rattle.std.specs.Str.{IsCharBoundary, IsUtf8}
 use Rattle.std.proofs.lemmas.List.{drop-append-le, get_or_read}
 use Rattle.std.proofs.lemmas.Option.{slice_get-get_or, slice_get_past, unwrap_or-slice_get}

@@ -26,7 +26,8 @@ alert_of-requires c =
     c.into_iter-one-iterator.result} c.args.held.items given.0 (given.1 ∙ counted c.args.held))
     c.loop-one.yielded c.loop-one.one-iterator c.loop-one.yielded_by c.next.result c.next.new.self c.in-Some.one
     c.in-Some.is c.next.ensures.steps in
-    at_turn (AreItsHits c.args.article.now (map hit_value c.args.all_hits.now.value.items)) c.args.held.items c.loop-one.yielded c.in-Some.one c.requires turn.0 turn.1
+    at_turn (AreItsHits c.args.article.now (map hit_value c.args.all_hits.now.value.items)) c.args.held.items
+    c.loop-one.yielded c.in-Some.one c.requires turn.0 turn.1
 
 pub loop-one-preserved : goal.loop-one-preserved
 loop-one-preserved c =
