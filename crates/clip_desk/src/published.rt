@@ -132,5 +132,6 @@ impl<I: Index> Join<Option<Published<I>>> for Handover {
 /// The end by which a seat reads.
 pub(crate) type ReaderEnd<I> = Reader<Published<I>, Option<Published<I>>, Rules>;
 
-/// The end by which a desk publishes. It has no `Drop`: end it by `take`.
+/// The end by which a desk publishes. It has no `Drop`: end it by `take`. A struct that holds one repeats the bound
+/// `Absorb` of `Writer`, which only a generic `impl` meets here.
 pub(crate) type WriterEnd<I> = Writer<Published<I>, Published<I>, Option<Published<I>>, Rules>;
