@@ -128,11 +128,17 @@ class Browser:
         ActionChains(self.driver).key_down(Keys.SHIFT).send_keys(Keys.TAB).key_up(Keys.SHIFT).perform()
 
     def paste(self, selector: str, text: str) -> None:
-        """Clicks into a box and pastes a text, as from the clipboard."""
-        self.click(selector)
+        """Clicks into a box and pastes a text, as from the clipboard. A box that comes meanwhile may move it away."""
+        self.until(lambda: self.clicks_into(selector), f"{selector} does not get the keyboard")
         self.run("""const data = new DataTransfer(); data.setData("text/plain", arguments[0]);
             document.activeElement.dispatchEvent(
               new ClipboardEvent("paste", {clipboardData: data, bubbles: true, cancelable: true}))""", text)
+
+    def clicks_into(self, selector: str) -> bool:
+        """Clicks at a box, and says whether the keyboard is in it then."""
+        self.click(selector)
+        return bool(self.run("""const place = document.querySelector(arguments[0]);
+            return (place.closest(".CodeMirror") ?? place).contains(document.activeElement)""", selector))
 
     def fill(self, selector: str, text: str) -> None:
         """Puts a text into a box in one go."""
