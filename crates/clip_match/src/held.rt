@@ -74,7 +74,7 @@ impl<'a> LedId<'a> {
 }
 
 /// Where the hits of one query stand in a list of those of many: from one place up to another, which is not theirs.
-#[derive(Clone, Copy, Debug)]
+#[derive(Clone, Copy)]
 pub(crate) struct HitPlaces {
     pub(crate) start: usize,
     pub(crate) end: usize,

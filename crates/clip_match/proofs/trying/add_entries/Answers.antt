@@ -1,4 +1,5 @@
-use Rattle.std.proofs.Common.{◌≡◌, sym}
+use Rattle.std.proofs.Common.{◌≡◌, sym, arith}
+use Rattle.std.proofs.lemmas.Grind.{common_steps}
 use Rattle.clip_match.specs.declared.held.HitsFound.TheVariants.{AtOnce, WhenAsked}
 use Rattle.clip_match.proofs.Added.{added_without, entry_added}
 use Rattle.clip_match.proofs.trying.add_entries.Goals as goal
@@ -20,3 +21,10 @@ loop-position-preserved c =
           added_without WhenAsked c.args.reading.now.article all now after c.in-Some.one c.in-Some.ensures.hits
           asked_apart c.in_ok-push.ensures.items (c.loop-position.invariant.hits all before);
     }
+
+-- found by this tactic: they stand here so that no other is tried before it
+pub returns-clause-entries : goal.returns-clause-entries
+returns-clause-entries c = grind (arith, common_steps)
+
+pub loop-position-preserved-in_default : goal.loop-position-preserved-in_default
+loop-position-preserved-in_default c = grind (arith, common_steps)

@@ -6,6 +6,7 @@ use Rattle.std.specs.Prelude.{is_some}
 use Rattle.std.proofs.lemmas.Bool.{false≢true}
 use Rattle.std.proofs.lemmas.List.{length-map}
 use Rattle.std.proofs.lemmas.List.Elements.{All-append, All-cons, All-nil}
+use Rattle.std.proofs.lemmas.Grind.{common_steps}
 use Rattle.clip_meaning.specs.Hits.{hit_value, hits}
 use Rattle.clip_model.specs.History.{Registered}
 use Rattle.clip_segment.specs.Segment.{AskedValue}
@@ -75,3 +76,10 @@ loop-position-preserved-then-not-finds_more c =
           (λ at_once. false≢true (sym c.if-not-finds_more.true ∙ c.finds_more.ensures at_once))
           c.in_ok-push.ensures.items (c.loop-position.invariant.hits before);
     }
+
+-- found by this tactic: they stand here so that no other is tried before it
+pub returns-clause-entries : goal.returns-clause-entries
+returns-clause-entries c = grind (arith, common_steps)
+
+pub loop-position-preserved-in_default : goal.loop-position-preserved-in_default
+loop-position-preserved-in_default c = grind (arith, common_steps)

@@ -1,3 +1,5 @@
+use Rattle.std.proofs.Common.{arith}
+use Rattle.std.proofs.lemmas.Grind.{common_steps}
 use Rattle.clip_segment.proofs.Asked.{key_term}
 use Rattle.clip_segment.proofs.Lists.{next_key}
 use Rattle.clip_segment.proofs.building.add_position.Goals as goal
@@ -15,3 +17,7 @@ loop-key-preserved c = record {
       c.requires.once c.loop-key-test.true c.key-item.is (c.loop-key.invariant.lists under start)
       c.in_ok-add_to_key.ensures.added;
 }
+
+-- found by this tactic: it stands here so that no other is tried before it
+pub returns : goal.returns
+returns c = grind (arith, common_steps)

@@ -1,6 +1,7 @@
-use Rattle.std.proofs.Common.{◌+◌, ◌∙◌, [], map, replicate, length, ap, sym, subst, vec_items, refl, IsTrue}
+use Rattle.std.proofs.Common.{◌+◌, ◌∙◌, [], map, replicate, length, ap, sym, subst, vec_items, refl, IsTrue, arith}
 use Rattle.std.proofs.lemmas.List.{length-map}
 use Rattle.std.specs.List.Sorted.{IsStrictlySortedBy}
+use Rattle.std.proofs.lemmas.Grind.{common_steps}
 use Rattle.clip_grammar.specs.Tree.{tree_of}
 use Rattle.clip_extract.specs.Extraction.{extract, query_keys, second_extract, second_keys}
 use Rattle.clip_extract.specs.Keys.{key_of, key_cmp}
@@ -88,3 +89,7 @@ loop-query-preserved c =
             ∙ query.own_seconds) c.in_ok-add_position-2.ensures);
       };
     }
+
+-- found by this tactic: it stands here so that no other is tried before it
+pub returns : goal.returns
+returns c = grind (arith, common_steps)

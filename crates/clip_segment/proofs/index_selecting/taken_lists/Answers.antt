@@ -1,6 +1,7 @@
 use Rattle.std.proofs.Common.{◌<◌, ◌++◌, ◌∷◌, [], length, flat_map, get_or, ap, sym, ◌∙◌, arith}
 use Rattle.std.proofs.lemmas.List.{map_more}
 use Rattle.std.proofs.lemmas.Option.{unwrap_or-slice_get}
+use Rattle.std.proofs.lemmas.Grind.{common_steps}
 use Rattle.clip_extract.specs.Keys.{Any}
 use Rattle.clip_segment.specs.Steps.Parts.{taken}
 use Rattle.clip_segment.proofs.index_selecting.taken_lists.Goals as goal
@@ -17,3 +18,7 @@ loop-number-preserved c = λ under all.
     ∙ all n lt ∙ ap under (unwrap_or-slice_get terms n Any))
     ∙ ap (λ l. l ++ under (get_or terms n Any) ∷ []) (c.loop-number.invariant under all)
     ∙ sym (map_more under terms n Any lt)
+
+-- found by this tactic: it stands here so that no other is tried before it
+pub returns : goal.returns
+returns c = grind (arith, common_steps)

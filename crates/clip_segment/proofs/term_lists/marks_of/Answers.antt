@@ -1,7 +1,7 @@
 use Rattle.std.proofs.Common.{◌≡◌, ◌<◌, ◌||◌, ◌+◌, ◌++◌, ◌∷◌, ℕ, nat_eq, List, length, flat_map, take, get_or, []}
 use Rattle.std.proofs.Common.{append-nil, ap, sym, ◌∙◌, arith}
 use Rattle.std.specs.List.{list_any}
-use Rattle.std.proofs.lemmas.Grind.{flat_map-append}
+use Rattle.std.proofs.lemmas.Grind.{flat_map-append, common_steps}
 use Rattle.std.proofs.lemmas.List.{take_more}
 use Rattle.std.proofs.lemmas.List.Folds.{list_any-append}
 use Rattle.std.proofs.lemmas.Option.{unwrap_or-slice_get}
@@ -30,3 +30,10 @@ loop-number-preserved c =
           ∙ ap (λ l. list_any (nat_eq n) (before ++ l)) (c.get.ensures ∙ unwrap_or-slice_get lists i [])
           ∙ ap (list_any (nat_eq n)) (sym (next_list lists i (omega arith)));
     }
+
+-- found by this tactic: they stand here so that no other is tried before it
+pub loop-number-init : goal.loop-number-init
+loop-number-init c = grind (arith, common_steps)
+
+pub returns-clause-marked : goal.returns-clause-marked
+returns-clause-marked c = grind (arith, common_steps)

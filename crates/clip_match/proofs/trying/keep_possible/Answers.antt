@@ -1,0 +1,13 @@
+use Rattle.std.proofs.Common.{arith}
+use Rattle.std.proofs.lemmas.Grind.{common_steps}
+use Rattle.clip_match.proofs.trying.keep_possible.Goals as goal
+
+-- found by this tactic: they stand here so that no other is tried before it
+pub loop-position-preserved : goal.loop-position-preserved
+loop-position-preserved c = grind (arith, common_steps)
+
+pub returns-clause-holding : goal.returns-clause-holding
+returns-clause-holding c = grind (arith, common_steps)
+
+pub loop-position-preserved-then-not-may_hold : goal.loop-position-preserved-then-not-may_hold
+loop-position-preserved-then-not-may_hold c = grind (arith, common_steps)

@@ -1,0 +1,10 @@
+use Rattle.std.proofs.Common.{arith}
+use Rattle.std.proofs.lemmas.Grind.{common_steps}
+use Rattle.clip_segment.proofs.marking.mark_positions.Goals as goal
+
+-- found by this tactic: they stand here so that no other is tried before it
+pub loop-position-preserved : goal.loop-position-preserved
+loop-position-preserved c = grind (arith, common_steps)
+
+pub returns-clause-marked : goal.returns-clause-marked
+returns-clause-marked c = grind (arith, common_steps)
