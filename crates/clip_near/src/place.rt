@@ -1,5 +1,5 @@
 //! Where in the words of a field a query stands.
-ghost use Rattle.std.specs.Prelude.{◌≡◌, ◌+◌, ◌<◌, ◌≤◌, None, drop, map, option_map, IfSome};
+ghost use Rattle.std.specs.Prelude.{◌≡◌, ◌+◌, ◌<◌, ◌≤◌, None, map, option_map, IfSome};
 ghost use Rattle.std.specs.Arc.{arc_str_bytes};
 ghost use Rattle.clip_grammar.specs.Tree.{tree_of};
 ghost use Rattle.clip_near.specs.Near.{field_of, width, stands, stands_at, is_followed};
@@ -55,22 +55,11 @@ fn stands(query: &Query, words: &[ArcStr]) -> bool
     }
 }
 
-/// The words from a position on, none where it is past the end.
-fn words_from(words: &[ArcStr], position: usize) -> &[ArcStr]
-    ensures { result.now ≡ drop position words.now }
-{
-    if position < words.len() {
-        &words[position..]
-    } else {
-        &[]
-    }
-}
-
 /// Whether a query stands in the words from a position on.
 fn stands_at(query: &Query, words: &[ArcStr], position: usize) -> bool
     ensures { result ≡ stands_at (tree_of query.now) (map arc_str_bytes words.now) position }
 {
-    stands(query, words_from(words, position))
+    position < words.len() && stands(query, &words[position..])
 }
 
 /// Whether a query that takes so many words has a place that ends before a position, at the word before it.
