@@ -2,9 +2,11 @@
 use mathlib.Core.List.{[], ◌∷◌}
 use mir.Syntax.{Sym}
 use denote.RattleType.{RattleType}
-use denote.Param.Send.{IsSend, IsSync, sendable}
+use denote.Param.{param}
+use denote.Param.Send.{IsSend, IsSync, shr_send, sendable}
 use denote.Param.SendFields.{declared_send, declared_sync, as_row_send}
-use denote.Struct.Field.{row_field}
+use denote.Ref.{NamedLft}
+use denote.Struct.Field.{row_field, shr_ref_field}
 use denote.Struct.Tuple.{TupleAt, type_at}
 use Rattle.std.proofs.alloc.Global.TheSendSync as global_sent
 use Rattle.std.below.std_heap.proofs.GlobalAllocator.TheSendSync as allocator_sent
@@ -41,6 +43,22 @@ seat_row = seat.the_row labelled_index.the_row index_impl.ghosts
 pub seat_send : IsSend seat_row
 seat_send = sent.seat_send labelled_index.the_row index_impl.ghosts labelled_index_send labelled_index_sync
 
+-- a closure of two captures
+two_send : (name : Sym) (A B : RattleType) → IsSend A → IsSend B → IsSend (TupleAt name (A ∷ B ∷ []))
+two_send name A B a b = declared_send (type_at name (A ∷ B ∷ [])) (
+  as_row_send (row_field A) a,
+  (as_row_send (row_field B) b, tt),
+)
+
+-- a closure of three captures
+three_send : (name : Sym) (A B C : RattleType) → IsSend A → IsSend B → IsSend C
+    → IsSend (TupleAt name (A ∷ B ∷ C ∷ []))
+three_send name A B C a b c =
+    declared_send (type_at name (A ∷ B ∷ C ∷ [])) (
+      as_row_send (row_field A) a,
+      (as_row_send (row_field B) b, (as_row_send (row_field C) c, tt)),
+    )
+
 module _ (N : RattleType) (g : Ghosts N.Denot) where
   handed_send : IsSend (handed.the_row N g)
   handed_send = declared_send (handed.the_type N g) (receipt_sent.the_send, (search sendable, tt))
@@ -67,18 +85,26 @@ module _ (N : RattleType) (g : Ghosts N.Denot) where
     ),
   )
 
--- a closure of two captures
-pub two_send : (name : Sym) (A B : RattleType) → IsSend A → IsSend B → IsSend (TupleAt name (A ∷ B ∷ []))
-two_send name A B a b = declared_send (type_at name (A ∷ B ∷ [])) (
-  as_row_send (row_field A) a,
-  (as_row_send (row_field B) b, tt),
-)
+  -- what a thread borrows: what all threads run on, and the room
+  abbrev rt_row : (R : RattleType) → NamedLft → RattleType
+  rt_row R a = (shr_ref_field a (param 1 R) tt).row
 
--- a closure of three captures
-pub three_send : (name : Sym) (A B C : RattleType) → IsSend A → IsSend B → IsSend C
-    → IsSend (TupleAt name (A ∷ B ∷ C ∷ []))
-three_send name A B C a b c =
-    declared_send (type_at name (A ∷ B ∷ C ∷ [])) (
-      as_row_send (row_field A) a,
-      (as_row_send (row_field B) b, (as_row_send (row_field C) c, tt)),
-    )
+  abbrev shared_row : NamedLft → RattleType
+  shared_row a = (shr_ref_field a (room.the_row N g) tt).row
+
+  rt_send : (R : RattleType) (a : NamedLft) → IsSync (param 1 R) → IsSend (rt_row R a)
+  rt_send R a = shr_send a.mir a.lft (param 1 R)
+
+  shared_send : (a : NamedLft) → IsSend (shared_row a)
+  shared_send a = shr_send a.mir a.lft (room.the_row N g) room_sync
+
+  -- a closure that borrows both
+  pub work_send : (name : Sym) (R : RattleType) (a b : NamedLft) → IsSync (param 1 R)
+      → IsSend (TupleAt name (rt_row R a ∷ shared_row b ∷ []))
+  work_send name R a b sync = two_send name (rt_row R a) (shared_row b) (rt_send R a sync) (shared_send b)
+
+  -- a closure that borrows both and has a seat
+  pub seat_work_send : (name : Sym) (R : RattleType) (a b : NamedLft) → IsSync (param 1 R)
+      → IsSend (TupleAt name (rt_row R a ∷ shared_row b ∷ seat_row ∷ []))
+  seat_work_send name R a b sync =
+      three_send name (rt_row R a) (shared_row b) seat_row (rt_send R a sync) (shared_send b) seat_send
