@@ -3,7 +3,7 @@ ghost use Rattle.std.specs.Prelude.{◌≡◌};
 ghost use Rattle.clip_desk.specs.Updates.{all_heard};
 ghost use Rattle.clip_desk.specs.Locked.{IsSeatOf};
 
-use crate::desk::making::{commit_four, parts_with, pop_seat, purge};
+use crate::desk::making::{open_with_four, parts_with, purge};
 use crate::desk::types::{Closed, Desk, DeskParts, Seat};
 use crate::updates::lines;
 use clip_desk::{DeskName, UpdateLog};
@@ -26,11 +26,7 @@ fn run_purge<N: DeskName, R: Wait + Abort>(rt: &R, alloc: Global, parts: DeskPar
     requires heard { N.heard_before ≡ all_heard parts.updates }
     requires keeps { parts.keeps ≡ N.keeps }
 {
-    let (desk, mut seats) = Desk::<N>::open(parts);
-    let Some(mut seat) = pop_seat::<N>(&mut seats) else {
-        panic!(rt; "one seat")
-    };
-    commit_four(rt, alloc, &desk, &mut seat);
+    let (desk, mut seat) = open_with_four::<N, _>(rt, alloc, parts);
     purge(rt, &desk, &mut seat);
     close_one(rt, alloc, desk, seat);
 }

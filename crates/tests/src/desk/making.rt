@@ -2,6 +2,7 @@
 ghost use Rattle.std.specs.Prelude.{◌≡◌, ◌<◌, IfSome, IsTrue};
 ghost use Rattle.clip_model.specs.History.{fits};
 ghost use Rattle.clip_standing.specs.Command.{command_of};
+ghost use Rattle.clip_desk.specs.Updates.{all_heard};
 ghost use Rattle.clip_desk.specs.Locked.{IsSeatOf, AreSeatsOf};
 
 use crate::desk::types::{Desk, DeskParts, Seat};
@@ -88,20 +89,26 @@ pub fn commit<N: DeskName, R: Wait + Abort>(
     }
 }
 
-/// Registers q1 to q4, each by a commit of its own.
-pub fn commit_four<N: DeskName, R: Wait + Abort>(
+/// Opens a desk, and registers q1 to q4 from its last seat, each by a commit of its own.
+pub fn open_with_four<N: DeskName, R: Wait + Abort>(
     rt: &R,
     alloc: Global,
-    desk: &Desk<N>,
-    seat: &mut Seat,
-)
-    requires { IsSeatOf N.book N.callers seat.old }
-    ensures { IsSeatOf N.book N.callers seat.new }
+    parts: DeskParts,
+) -> (Desk<N>, Seat)
+    requires book { (parts.book ≡ N.book) × (parts.callers ≡ N.callers) }
+    requires heard { N.heard_before ≡ all_heard parts.updates }
+    requires keeps { parts.keeps ≡ N.keeps }
+    ensures { IsSeatOf N.book N.callers result.1 }
 {
-    commit(rt, desk, seat, register(rt, alloc, "q1", "tea"));
-    commit(rt, desk, seat, register(rt, alloc, "q2", "coffee"));
-    commit(rt, desk, seat, register(rt, alloc, "q3", "milk"));
-    commit(rt, desk, seat, register(rt, alloc, "q4", "water"));
+    let (desk, mut seats) = Desk::<N>::open(parts);
+    let Some(mut seat) = pop_seat::<N>(&mut seats) else {
+        panic!(rt; "one seat")
+    };
+    commit(rt, &desk, &mut seat, register(rt, alloc, "q1", "tea"));
+    commit(rt, &desk, &mut seat, register(rt, alloc, "q2", "coffee"));
+    commit(rt, &desk, &mut seat, register(rt, alloc, "q3", "milk"));
+    commit(rt, &desk, &mut seat, register(rt, alloc, "q4", "water"));
+    (desk, seat)
 }
 
 /// Purges, which is not refused.

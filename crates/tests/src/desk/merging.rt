@@ -1,9 +1,8 @@
 //! Merges and purges of a shared desk, as looks show them.
 ghost use Rattle.std.specs.Prelude.{◌≡◌};
 ghost use Rattle.clip_desk.specs.Updates.{all_heard};
-ghost use Rattle.clip_desk.specs.Locked.{IsSeatOf};
 
-use crate::desk::making::{commit, commit_four, parts_of, pop_seat, purge, register};
+use crate::desk::making::{commit, open_with_four, parts_of, purge, register};
 use crate::desk::types::{Desk, DeskParts, Seat};
 use clip_desk::{DeskName, Nudge};
 use clip_registry::MergeTurn;
@@ -49,21 +48,15 @@ fn run_merge<N: DeskName, R: Wait + Abort>(rt: &R, alloc: Global, parts: DeskPar
     requires heard { N.heard_before ≡ all_heard parts.updates }
     requires keeps { parts.keeps ≡ N.keeps }
 {
-    let (desk, mut seats) = Desk::<N>::open(parts);
-    match pop_seat::<N>(&mut seats) {
-        Some(mut seat) => {
-            commit_four(rt, alloc, &desk, &mut seat);
-            sees_inside(rt, &mut seat, (4, 4));
-            assert!(rt; desk.merge_once(rt) == Ok(MergeTurn::Installed));
-            sees_inside(rt, &mut seat, (1, 4));
-            assert!(rt; desk.merge_once(rt) == Ok(MergeTurn::Nothing));
-            commit(rt, &desk, &mut seat, register(rt, alloc, "q1", "coffee"));
-            sees_inside(rt, &mut seat, (2, 5));
-            purge(rt, &desk, &mut seat);
-            sees_inside(rt, &mut seat, (2, 4));
-        }
-        None => panic!(rt; "one seat"),
-    }
+    let (desk, mut seat) = open_with_four::<N, _>(rt, alloc, parts);
+    sees_inside(rt, &mut seat, (4, 4));
+    assert!(rt; desk.merge_once(rt) == Ok(MergeTurn::Installed));
+    sees_inside(rt, &mut seat, (1, 4));
+    assert!(rt; desk.merge_once(rt) == Ok(MergeTurn::Nothing));
+    commit(rt, &desk, &mut seat, register(rt, alloc, "q1", "coffee"));
+    sees_inside(rt, &mut seat, (2, 5));
+    purge(rt, &desk, &mut seat);
+    sees_inside(rt, &mut seat, (2, 4));
     desk.end(rt);
 }
 
@@ -79,15 +72,9 @@ fn run_nudges<N: DeskName, R: Wait + Abort>(rt: &R, alloc: Global, parts: DeskPa
     requires heard { N.heard_before ≡ all_heard parts.updates }
     requires keeps { parts.keeps ≡ N.keeps }
 {
-    let (desk, mut seats) = Desk::<N>::open(parts);
-    match pop_seat::<N>(&mut seats) {
-        Some(mut seat) => {
-            commit_four(rt, alloc, &desk, &mut seat);
-            serve_two(rt, alloc, &desk);
-            sees_inside(rt, &mut seat, (1, 4));
-        }
-        None => panic!(rt; "one seat"),
-    }
+    let (desk, mut seat) = open_with_four::<N, _>(rt, alloc, parts);
+    serve_two(rt, alloc, &desk);
+    sees_inside(rt, &mut seat, (1, 4));
     desk.end(rt);
 }
 

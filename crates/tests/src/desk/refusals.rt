@@ -3,9 +3,8 @@ ghost use Rattle.std.specs.Prelude.{◌≡◌, ◌≢◌, IfOk, IsTrue};
 ghost use Rattle.clip_model.specs.History.{fits};
 ghost use Rattle.clip_standing.specs.Command.{command_of};
 ghost use Rattle.clip_desk.specs.Updates.{all_heard};
-ghost use Rattle.clip_desk.specs.Locked.{IsSeatOf, AreSeatsOf};
 
-use crate::desk::making::{commit, parts_of, pop_seat, register};
+use crate::desk::making::{commit, open_with_four, parts_of, pop_seat, register};
 use crate::desk::types::{Closed, Desk, DeskParts, Seat};
 use clip_desk::{DeskName, NewRefused, Refused, SeatMissing};
 use clip_standing::Command;
@@ -18,7 +17,7 @@ use std::test::Fail;
 #[test]
 fn a_desk_has_64_callers_at_most(rt: HostRuntime) -> Result<(), Fail> {
     match parts_of(&rt, rt.alloc(), 1, 65) {
-        Ok(parts) => run_close::<Brand, _>(&rt, rt.alloc(), parts),
+        Ok(_) => panic!(&rt; "65 callers"),
         Err(refused) => assert!(rt; refused == NewRefused::TooMany),
     }
     Ok(())
@@ -37,11 +36,9 @@ fn run_close<N: DeskName, R: Wait + Abort>(rt: &R, alloc: Global, parts: DeskPar
     requires keeps { parts.keeps ≡ N.keeps }
 {
     let none = Vec::new(alloc);
-    let (desk, mut seats) = Desk::<N>::open(parts);
-    let Some(mut seat) = pop_seat::<N>(&mut seats) else {
-        panic!(rt; "one seat")
-    };
-    commit_around_a_clear(rt, alloc, &desk, &mut seat);
+    let (desk, mut seat) = open_with_four::<N, _>(rt, alloc, parts);
+    commit(rt, &desk, &mut seat, Command::Clear);
+    commit(rt, &desk, &mut seat, register(rt, alloc, "q5", "tea"));
     let SeatMissing { desk, seats: _ } = match desk.close(rt, none) {
         Ok(_) => panic!(rt; "a seat is missing"),
         Err(missing) => missing,
@@ -56,25 +53,10 @@ fn run_close<N: DeskName, R: Wait + Abort>(rt: &R, alloc: Global, parts: DeskPar
     }
 }
 
-fn commit_around_a_clear<N: DeskName, R: Wait + Abort>(
-    rt: &R,
-    alloc: Global,
-    desk: &Desk<N>,
-    seat: &mut Seat,
-)
-    requires { IsSeatOf N.book N.callers seat.old }
-    ensures { IsSeatOf N.book N.callers seat.new }
-{
-    commit(rt, desk, seat, register(rt, alloc, "q1", "tea"));
-    commit(rt, desk, seat, register(rt, alloc, "q2", "coffee"));
-    commit(rt, desk, seat, Command::Clear);
-    commit(rt, desk, seat, register(rt, alloc, "q3", "milk"));
-}
-
 fn check_numbers<R: Abort>(rt: &R, closed: &Closed) {
     let history = closed.registrar.history();
-    assert!(rt; history.len() == 4);
-    for place in 0..4usize {
+    assert!(rt; history.len() == 6);
+    for place in 0..6usize {
         match history.get(place) {
             Some(entry) => {
                 assert!(rt; entry.caller == 1);
