@@ -69,7 +69,7 @@ impl Index for LabelledIndex {
     ///
     /// `NoMemory` where an allocation failed, and where their queries have more than 4,294,967,295 terms or as many
     /// bytes of ids. Cost: the reading of their texts, an extraction of each query's keys and second keys, a sort of
-    /// these and of the words of all, a look-up for each of them, and a copy of each id.
+    /// these and of the words of all, a binary search for each of them, and a copy of each id.
     fn of(alloc: Global, entries: &[Arc<Entry>]) -> Result<LabelledIndex, NoMemory> {
         Ok(LabelledIndex {
             labels: Labels::of(alloc, entries)?,

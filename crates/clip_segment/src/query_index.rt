@@ -72,8 +72,9 @@ impl QueryIndex {
     /// The index of these queries, of which there are at most `MOST_POSITIONS`.
     ///
     /// `NoMemory` where an allocation failed, and where the queries have more than 4,294,967,295 terms. Cost: an
-    /// extraction of each query's keys and second keys, a sort of these and of the words of all, and a look-up for each
-    /// of them. No text is copied but ends of ranges.
+    /// extraction of each query's keys and second keys, a sort of these and of the words of all, and a binary search
+    /// for each of them.
+    /// No text is copied but ends of ranges.
     pub(crate) fn of(alloc: Global, queries: &[Query]) -> Result<QueryIndex, NoMemory>
         requires { length queries.now ≤ MOST_POSITIONS }
         ensures { IfOk result (λ index. IsIndexOf (map tree_of queries.now) index) }
@@ -91,8 +92,8 @@ impl QueryIndex {
     /// a flag for each of its queries; at most `MOST_POSITIONS` flags are set.
     ///
     /// `NoMemory` where an allocation failed, and where the queries have more than 4,294,967,295 terms. Cost: for each
-    /// index a comparison for each term that kept queries of it and of those before it ask for; a look-up for each
-    /// term; a step for each flag and each position; and for each kept query a step for each word and each leaf.
+    /// index a comparison for each term that kept queries of it and of those before it ask for; a binary search for
+    /// each term; a step for each flag and each position; and for each kept query a step for each word and each leaf.
     /// No key is extracted, and no text is copied but ends of ranges.
     pub(crate) fn select(
         alloc: Global,
@@ -112,8 +113,8 @@ impl QueryIndex {
         made_index(alloc, terms, positions, seconds, plans)
     }
 
-    /// The positions, from 0 and rising, of just the queries that have the key. Takes no memory. Cost: a look-up among
-    /// the terms.
+    /// The positions, from 0 and rising, of just the queries that have the key. Takes no memory. Cost: a binary
+    /// search among the terms.
     pub(crate) fn with_key(&self, key: &Key) -> &[u32]
         ensures { (trees : List Tree) → IsIndexOf trees self.now
             → result.now ≡ query_positions_with query_keys (key_of key.now) trees }

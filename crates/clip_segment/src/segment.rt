@@ -19,7 +19,7 @@ use clip_extract::Key;
 pub type Segment = clip_indexed::Segment<LabelledIndex>;
 
 /// The positions, from 0 and rising, of just the entries of a segment that hold the key. Takes no memory. Cost: a
-/// look-up among the terms of its index.
+/// binary search among the terms of its index.
 pub fn positions_with_key<'a>(segment: &'a Segment, key: &Key) -> &'a [u32]
     ensures holders { result.now ≡ positions_with (key_of key.now) segment.now }
     ensures within { All (λ position. position < length segment.now) result.now }

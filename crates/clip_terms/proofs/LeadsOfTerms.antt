@@ -1,8 +1,9 @@
 -- Terms and their leads, one after another.
 use Rattle.std.proofs.Common.{◌≡◌, ℕ, zero, suc, ◌<◌, ◌≤◌, List, [], ◌∷◌, ◌++◌, length, map, get_or, Less}
 use Rattle.std.proofs.Common.{Equal, Greater, is_gt, ◌+◌, refl, sym, ap, subst, ◌∙◌, arith}
-use Rattle.std.proofs.Common.{inl, inr, Ordering, true, false, is_eq}
+use Rattle.std.proofs.Common.{inl, inr, Option, Some, None, Ordering, true, false, is_eq}
 use Rattle.std.specs.Cmp.{tied_itself}
+use Rattle.std.specs.Prelude.{MatchOption, IfSome}
 use Rattle.std.specs.Ordering.{ordering_reverse}
 use Rattle.std.specs.Cmp.Lexicographic.{nat_list_cmp_total}
 use Rattle.std.proofs.lemmas.Bool.{cases_lt, false≢true}
@@ -13,7 +14,7 @@ use Rattle.clip_meaning.proofs.Fields.{bytes_exact}
 use Rattle.clip_meaning.proofs.Leads.{lead_below, leads_tie}
 use Rattle.clip_extract.specs.Keys.{KeyValue, Any, key_of, text_of}
 use Rattle.clip_extract.specs.declared.key.Key.{Key}
-use Rattle.clip_terms.specs.Steps.LeadChains.{slot_of, IsInSlot}
+use Rattle.clip_terms.specs.Steps.LeadChains.{IsNext}
 use Rattle.clip_terms.specs.Steps.Leads.{AreLeads, IsShortLength, AreShortLengths, NeverFall, TextsRise}
 
 pub leads_long : (ts : List KeyValue) (leads : List ℕ) → AreLeads ts leads → length leads ≡ length ts
@@ -89,21 +90,33 @@ never_fall ts leads start end are within rise m n a lt b =
       | inr ge ↦ ge
     ]
 
--- ---- along the chain of a slot
+-- ---- from one term of a lead to the next
 
-module _ (ts : List KeyValue) (leads : List ℕ) (text : List ℕ) (lead : ℕ) (are : AreLeads ts leads)
-    (is : IsLead text lead) where
-  -- a term of the text has its lead
-  of_text : (n : ℕ) (d : KeyValue) → n < length ts → text_of (get_or ts n d) ≡ text → get_or leads n 0 ≡ lead
-  of_text n d inside e =
-      (subst (λ t. IsLead t (get_or leads n 0)) e (lead_at ts leads are n d inside)).number ∙ sym is.number
+-- no term of the text, from a place on, is before the first one of its lead
+pub not_before : (ts : List KeyValue) (leads : List ℕ) (text : List ℕ) (lead from : ℕ) → AreLeads ts leads
+    → IsLead text lead → (next : Option ℕ) → IsNext leads lead from next → (n : ℕ) (d : KeyValue) → from ≤ n
+    → n < length ts → text_of (get_or ts n d) ≡ text → MatchOption next ⊥ (λ p. p ≤ n)
+not_before ts leads text lead from are is next first n d a b e = by_place next first
+  where
+    same : get_or leads n 0 ≡ lead
+    same = (subst (λ t. IsLead t (get_or leads n 0)) e (lead_at ts leads are n d b)).number ∙ sym is.number
 
-  -- no term of the text, from a place on, is before the first one whose lead falls in its slot
-  pub not_before : (mask slot from place : ℕ) → IsInSlot leads mask slot from place → slot ≡ slot_of lead mask
-      → (n : ℕ) (d : KeyValue) → from ≤ n → n < length ts → text_of (get_or ts n d) ≡ text → place ≤ n
-  not_before mask slot from place first same n d a inside e =
-      first.first n a (omega (arith, inside, leads_long ts leads are))
-      (ap (λ x. slot_of x mask) (of_text n d inside e) ∙ sym same)
+    inside : n < length leads
+    inside = omega (arith, b, leads_long ts leads are)
+
+    by_place : (next : Option ℕ) → IsNext leads lead from next → MatchOption next ⊥ (λ p. p ≤ n)
+    by_place None none = none n a inside same
+    by_place (Some p) first =
+        elim (cases_lt n p) [
+          | inl lt ↦ absurd (first.3 n a lt same)
+          | inr ge ↦ ge
+        ]
+
+-- a first one has the lead of the text
+pub of_text : (leads : List ℕ) (text : List ℕ) (lead from : ℕ) → IsLead text lead → (next : Option ℕ)
+    → IsNext leads lead from next → IfSome next (λ p. (p < length leads) × IsLead text (get_or leads p 0))
+of_text leads text lead from is None none = tt
+of_text leads text lead from is (Some p) first = (first.1, subst (IsLead text) (sym first.2) is)
 
 -- what is not another place is the next one or behind it
 pub behind : (place n : ℕ) → place ≤ n → (n ≡ place → ⊥) → place + 1 ≤ n

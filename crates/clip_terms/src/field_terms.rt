@@ -7,7 +7,7 @@ ghost use Rattle.clip_extract.specs.Keys.{Word, Front, key_of};
 ghost use Rattle.clip_terms.specs.Terms.{number_of};
 ghost use Rattle.clip_terms.specs.Steps.Fronts.{AddsNumbersOf};
 ghost use Rattle.clip_terms.specs.Steps.LeadChains.{AreChained};
-ghost use Rattle.clip_terms.specs.Steps.Leads.{AreLeads, AreShortLengths, TextsRise, IsPlaceOf, IsPast};
+ghost use Rattle.clip_terms.specs.Steps.Leads.{AreLeads, AreShortLengths, IsPlaceOf, IsPast};
 ghost use Rattle.clip_terms.specs.Steps.KeysByField.{ordered_keys};
 
 use crate::lead_chains::LeadChains;
@@ -16,15 +16,13 @@ use crate::terms::Terms;
 use clip_extract::{Key, has_front_key};
 use clip_meaning::Field;
 use clip_words::NoMemory;
-use std::cmp::Ordering;
 use std::marker::Model;
 use std::ops::Range;
 
 /// The terms of one field, and where they are among all terms. Contracts see the terms and the name of the field.
 ///
 /// A text is looked up by its first eight bytes, as a number, of which a hash leads to the terms that begin with the
-/// same; texts are compared only where the length does not settle it, since one of them is longer. Where too many terms
-/// have one hash, a binary search finds it.
+/// same; texts are compared only where the length does not settle it, since one of them is longer.
 #[derive(Drop)]
 pub struct FieldTerms<'a> {
     keys: &'a [Key],
@@ -75,38 +73,7 @@ fn is_past(leads: &[u64], place: usize, lead: u64, short: u8) -> bool
     *first > lead && *first - lead >= span
 }
 
-/// Where the key of a text is in a part of keys, by a binary search among their texts.
-fn place_among(
-    keys: &[Key],
-    leads: &[u64],
-    lengths: &[u8],
-    part: &Range<usize>,
-    sought: &Sought<'_>,
-) -> Option<usize>
-    requires within { part.now.end ≤ length keys.now }
-    requires leads { AreLeads (map key_of keys.now) leads.now }
-    requires lengths { AreShortLengths (map key_of keys.now) lengths.now }
-    requires rise { TextsRise (map key_of keys.now) part.now.start part.now.end }
-    ensures { IsPlaceOf (map key_of keys.now) part.now.start part.now.end sought.now result }
-{
-    let mut low = part.start;
-    let mut high = part.end;
-    while low < high {
-        let middle = low + (high - low) / 2;
-        match sought.order(&keys[middle], leads[middle], lengths[middle]) {
-            Ordering::Less => low = middle + 1,
-            Ordering::Greater => high = middle,
-            Ordering::Equal => return Some(middle),
-        }
-    }
-    None
-}
-
-/// How many keys whose leads fall in one slot are looked at before a binary search, so that no look-up is long where many
-/// do: mostly there are one or two.
-const MOST_STEPS: usize = 16;
-
-/// Where the key of a text is in a part of keys. Goes along those whose leads fall in the slot of the text's.
+/// Where the key of a text is in a part of keys. Goes from one key of the text's lead to the next.
 fn place_of(
     keys: &[Key],
     leads: &[u64],
@@ -119,11 +86,10 @@ fn place_of(
     requires leads { AreLeads (map key_of keys.now) leads.now }
     requires lengths { AreShortLengths (map key_of keys.now) lengths.now }
     requires chained { AreChained leads.now chains.now }
-    requires rise { TextsRise (map key_of keys.now) part.now.start part.now.end }
     ensures { IsPlaceOf (map key_of keys.now) part.now.start part.now.end sought.now result }
 {
-    let mut place = chains.first(sought.lead());
-    for _ in 0..MOST_STEPS {
+    let mut next = chains.first(leads, sought.lead());
+    while let Some(place) = next {
         if place >= part.end {
             return None;
         }
@@ -134,9 +100,9 @@ fn place_of(
         {
             return Some(place);
         }
-        place = chains.next(place);
+        next = chains.next(leads, place);
     }
-    place_among(keys, leads, lengths, part, sought)
+    None
 }
 
 impl<'a> FieldTerms<'a> {
@@ -166,7 +132,7 @@ impl<'a> FieldTerms<'a> {
     }
 
     /// The number of a word of the field, `None` where it is no term. Takes no memory. Cost: a step for each term whose
-    /// first eight bytes fall in the same slot, one or two on average; a binary search where there are over sixteen.
+    /// first eight bytes have the same hash: few, but for words that have these bytes in common.
     pub fn word(&self, word: &str) -> Option<u32>
         ensures { result ≡ number_of self.now.terms (Word self.now.field word.now) }
     {

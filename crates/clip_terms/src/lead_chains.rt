@@ -6,9 +6,9 @@
 //! | the first place, by slot | none | 0 | |
 //! | the next place, by place | 1 | 2 | none |
 //!
-//! Who looks for 5 goes along the chain of slot 1, and passes place 1.
-ghost use Rattle.std.specs.Prelude.{◌≡◌, ℕ, ◌+◌, ◌<◌, ◌≤◌, IfOk, List, length, slice_index};
-ghost use Rattle.clip_terms.specs.Steps.LeadChains.{slot_of, AreChained, AreChainedFrom, IsInSlot};
+//! Who looks for the places of 5 goes along the chain of slot 1 and passes place 1.
+ghost use Rattle.std.specs.Prelude.{◌≡◌, ℕ, ◌+◌, ◌<◌, ◌≤◌, IfOk, length, slice_index};
+ghost use Rattle.clip_terms.specs.Steps.LeadChains.{slot_of, AreChained, AreChainedFrom, IsInSlot, IsNext};
 ghost use Rattle.clip_terms.specs.declared.terms.TheConstants.{MOST_TERMS};
 
 use clip_words::NoMemory;
@@ -80,23 +80,40 @@ impl LeadChains {
         self.firsts[slot] = place as u32;
     }
 
-    /// The first place whose lead falls in the slot of this one, past the last lead where there is none. Takes no
-    /// memory. Constant time.
-    pub(crate) fn first(&self, lead: u64) -> usize
-        requires { self.now.mask < length self.now.firsts.items }
-        ensures { (leads : List ℕ) → AreChained leads self.now
-            → IsInSlot leads self.now.mask (slot_of lead self.now.mask) 0 result }
+    /// The first place of a lead along the rest of a chain, which begins at this place.
+    fn along(&self, leads: &[u64], start: usize, lead: u64) -> Option<usize>
+        requires { AreChained leads.now self.now }
+        ensures { (from : ℕ) → IsInSlot leads.now self.now.mask (slot_of lead self.now.mask) from start
+            → IsNext leads.now lead from result }
     {
-        self.firsts[slot_of(lead, self.mask)] as usize
+        let mut place = start;
+        while place < leads.len() {
+            if leads[place] == lead {
+                return Some(place);
+            }
+            place = self.nexts[place] as usize;
+        }
+        None
     }
 
-    /// The next place behind one whose lead falls in the same slot, past the last lead where there is none. Takes no
-    /// memory. Constant time.
-    pub(crate) fn next(&self, place: usize) -> usize
-        requires { place < length self.now.nexts.items }
-        ensures { (leads : List ℕ) → AreChained leads self.now
-            → IsInSlot leads self.now.mask (slot_of (slice_index leads place) self.now.mask) (place + 1) result }
+    /// The first place of a lead, if there is one. Takes no memory. Cost: a step for each place whose lead falls in
+    /// the same slot, up to it.
+    pub(crate) fn first(&self, leads: &[u64], lead: u64) -> Option<usize>
+        requires { AreChained leads.now self.now }
+        ensures { IsNext leads.now lead 0 result }
     {
-        self.nexts[place] as usize
+        let start = self.firsts[slot_of(lead, self.mask)] as usize;
+        self.along(leads, start, lead)
+    }
+
+    /// The next place behind one that has the same lead, if there is one. Takes no memory. Cost: a step for each place
+    /// between them whose lead falls in the same slot.
+    pub(crate) fn next(&self, leads: &[u64], place: usize) -> Option<usize>
+        requires place { place < length leads.now }
+        requires chained { AreChained leads.now self.now }
+        ensures { IsNext leads.now (slice_index leads.now place) (place + 1) result }
+    {
+        let start = self.nexts[place] as usize;
+        self.along(leads, start, leads[place])
     }
 }

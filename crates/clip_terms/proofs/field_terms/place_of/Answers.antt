@@ -1,37 +1,27 @@
-use Rattle.std.proofs.Common.{◌≡◌, ℕ, ◌+◌, ◌<◌, ◌≤◌, length, map, get_or, subst, refl, sym, ap, ◌∙◌, arith}
+use Rattle.std.proofs.Common.{◌≡◌, ℕ, ◌+◌, ◌<◌, ◌≤◌, Option, length, map, get_or, subst, sym, ap, ◌∙◌, arith}
+use Rattle.std.specs.Prelude.{MatchOption, IfSome}
 use Rattle.std.proofs.lemmas.List.{length-map}
 use Rattle.clip_meaning.specs.Leads.{IsLead}
 use Rattle.clip_extract.specs.Keys.{KeyValue, key_of, text_of}
-use Rattle.clip_terms.specs.Steps.LeadChains.{slot_of}
 use Rattle.clip_terms.specs.Steps.Leads.{IsShortLength}
-use Rattle.clip_terms.proofs.LeadsOfTerms.{leads_long, lead_at, lengths_long, length_at, read_at, not_before}
+use Rattle.clip_terms.proofs.LeadsOfTerms.{lead_at, lengths_long, length_at, read_at, not_before, of_text}
 use Rattle.clip_terms.proofs.LeadsOfTerms.{behind, same_text, same_compares}
 use Rattle.clip_terms.proofs.field_terms.place_of.Goals as goal
 use Rattle.clip_terms.proofs.field_terms.place_of.Goals.{else-part-place-via-then-part-place+else-is_eq}
 use Rattle.clip_terms.proofs.field_terms.place_of.Goals.{else-part-place-via-else-part-place}
 
-pub loop-init : goal.loop-init
-loop-init c =
-    let mask = c.args.chains.now.mask in
-    let lead = c.lead.result in
-    let slot = c.first-place.ensures c.args.leads.now c.requires.chained in
+pub loop-next-init : goal.loop-next-init
+loop-next-init c =
+    let ts = map key_of c.args.keys.now in
+    let leads = c.args.leads.now in
+    let text = c.args.sought.now in
     record {
-      there = λ lt. (slot.there lt).1 ∙ ap (λ x. slot_of x mask) c.lead.ensures.number;
+      there = of_text leads text c.lead.result 0 c.lead.ensures c.first-next.result c.first-next.ensures;
       first = λ n d a b e.
-          not_before (map key_of c.args.keys.now) c.args.leads.now c.args.sought.now lead c.requires.leads c.lead.ensures
-          mask (slot_of lead mask) 0 c.first-place.result slot refl n d (omega arith)
+          not_before ts leads text c.lead.result 0 c.requires.leads c.lead.ensures c.first-next.result
+          c.first-next.ensures n d (omega arith)
           (omega (arith, b, c.requires.within, length-map c.args.keys.now key_of)) e;
     }
-
-pub bounds-leads-place : goal.bounds-leads-place
-bounds-leads-place c =
-    omega (
-      arith,
-      c.if-place-part.false,
-      c.requires.within,
-      leads_long (map key_of c.args.keys.now) c.args.leads.now c.requires.leads,
-      length-map c.args.keys.now key_of,
-    )
 
 pub bounds-lengths-place : goal.bounds-lengths-place
 bounds-lengths-place c =
@@ -46,7 +36,7 @@ bounds-lengths-place c =
 pub order-requires-clause-lead : goal.order-requires-clause-lead
 order-requires-clause-lead c =
     let keys = c.args.keys.now in
-    let place = c.loop.place in
+    let place = c.in-Some.place in
     let k = c.index-keys-place.result in
     let inside : place < length keys = omega (arith, c.if-place-part.false, c.requires.within) in
     subst (λ (t : KeyValue). IsLead (text_of t) (get_or c.args.leads.now place 0))
@@ -57,7 +47,7 @@ order-requires-clause-lead c =
 pub order-requires-clause-length : goal.order-requires-clause-length
 order-requires-clause-length c =
     let keys = c.args.keys.now in
-    let place = c.loop.place in
+    let place = c.in-Some.place in
     let k = c.index-keys-place.result in
     let inside : place < length keys = omega (arith, c.if-place-part.false, c.requires.within) in
     subst (λ (t : KeyValue). IsShortLength (text_of t) (get_or c.args.lengths.now place 0))
@@ -68,7 +58,7 @@ order-requires-clause-length c =
 pub returns-then-is_eq : goal.returns-then-is_eq
 returns-then-is_eq c =
     let keys = c.args.keys.now in
-    let place = c.loop.place in
+    let place = c.in-Some.place in
     let k = c.index-keys-place.result in
     let inside : place < length keys = omega (arith, c.if-place-part.false, c.requires.within) in (
       c.if-part-place.true,
@@ -79,30 +69,16 @@ returns-then-is_eq c =
           (sym c.is_eq.ensures ∙ c.if-is_eq.true),
     )
 
-pub next-place-requires : goal.next-place-requires
-next-place-requires c =
-    omega (
-      arith,
-      c.if-place-part.false,
-      c.requires.within,
-      c.requires.chained.long,
-      leads_long (map key_of c.args.keys.now) c.args.leads.now c.requires.leads,
-      length-map c.args.keys.now key_of,
-    )
-
-pub loop-preserved : goal.loop-preserved
-loop-preserved c =
+pub loop-next-preserved : goal.loop-next-preserved
+loop-next-preserved c =
     let keys = c.args.keys.now in
     let ts = map key_of keys in
     let leads = c.args.leads.now in
     let text = c.args.sought.now in
-    let mask = c.args.chains.now.mask in
-    let lead = c.lead.result in
-    let place = c.loop.place in
+    let place = c.in-Some.place in
+    let here = subst (λ (o : Option ℕ). IfSome o (λ p. (p < length leads) × IsLead text (get_or leads p 0)))
+    c.in-Some.is c.loop-next.invariant.there in
     let inside : place < length keys = omega (arith, c.if-place-part.false, c.requires.within) in
-    let here = c.loop.invariant.there
-    (omega (arith, inside, leads_long ts leads c.requires.leads, length-map keys key_of)) in
-    let slot = c.next-place.ensures leads c.requires.chained in
     let other : (n : ℕ) (d : KeyValue) → c.args.part.now.start ≤ n → text_of (get_or ts n d) ≡ text → n ≡ place → ⊥ =
     λ n d a e same.
     elim c.else-part-place.branch [
@@ -115,10 +91,12 @@ loop-preserved c =
       | else-part-place-via-else-part-place w ↦ omega (arith, w.if-part-place.false, a, same)
     ] in
     record {
-      there = λ lt. (slot.there lt).1 ∙ here;
+      there = of_text leads text (get_or leads place 0) (place + 1) here.1 c.next-next.result c.next-next.ensures;
       first = λ n d a b e.
-          not_before ts leads text lead c.requires.leads c.lead.ensures mask (slot_of (get_or leads place 0) mask)
-          (place + 1) c.next-place.result slot (here ∙ sym (ap (λ x. slot_of x mask) c.lead.ensures.number)) n d
-          (behind place n (c.loop.invariant.first n d a b e) (other n d a e))
+          not_before ts leads text (get_or leads place 0) (place + 1) c.requires.leads here.1 c.next-next.result
+          c.next-next.ensures n d
+          (behind place n
+          (subst (λ (o : Option ℕ). MatchOption o ⊥ (λ p. p ≤ n)) c.in-Some.is
+          (c.loop-next.invariant.first n d a b e)) (other n d a e))
           (omega (arith, b, c.requires.within, length-map keys key_of)) e;
     }
