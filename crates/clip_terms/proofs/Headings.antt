@@ -1,8 +1,8 @@
 -- The terms under a heading, and where one of a text stands among them.
-use Rattle.std.proofs.Common.{◌≡◌, ℕ, zero, suc, ◌<◌, ◌≤◌, Bool, true, false, List, [], ◌∷◌, length, map, get_or}
-use Rattle.std.proofs.Common.{Some, None, Ordering, Less, Equal, Greater, is_lt, is_le, is_eq, is_gt, refl, sym}
+use Rattle.std.proofs.Common.{◌≡◌, ℕ, zero, suc, ◌+◌, ◌<◌, ◌≤◌, Bool, true, false, List, [], ◌∷◌, length, map, get_or}
+use Rattle.std.proofs.Common.{Option, Some, None, Ordering, Less, Equal, Greater, is_lt, is_le, is_eq, is_gt, refl, sym}
 use Rattle.std.proofs.Common.{ap, ◌∙◌, arith, inl, inr}
-use Rattle.std.specs.Ordering.{ordering_then, nat_cmp, MatchOrdering}
+use Rattle.std.specs.Ordering.{ordering_then, ordering_reverse, nat_cmp, MatchOrdering}
 use Rattle.std.specs.Cmp.{IsTotalOrder, on_total, then_total, nat_cmp_total, tied_itself}
 use Rattle.std.specs.Cmp.Lexicographic.{nat_list_cmp_total}
 use Rattle.std.specs.List.Sorted.{IsStrictlySortedBy, IsPartitionedBy, IsPartitionPoint}
@@ -204,7 +204,7 @@ module _ (keys : List Key) where
     pub part_found : IsPart terms h start end
     part_found = record { rises = ends_rise; within = omega (arith, long); just = just_these; all = all_these }
 
--- ---- the texts of one heading rise
+-- ---- a binary search for a text
 
 pub texts_rise : (ts : List KeyValue) (h : Heading) (start end : ℕ) → IsRising ts → IsPart ts h start end
     → TextsRise ts start end
@@ -212,6 +212,62 @@ texts_rise ts h start end up part m n d a lt b =
     let within = part.within in
     sym (under_one h (get_or ts m d) (get_or ts n d) (part.just m d a (omega arith)) (part.just n d (omega arith) b))
     ∙ rises_at ts up m n d lt (omega arith)
+
+module _ (ts : List KeyValue) (start end : ℕ) (text : List ℕ) (rise : TextsRise ts start end) (middle : ℕ)
+    (k : KeyValue)
+    (at : (d : KeyValue) → get_or ts middle d ≡ k) (from : start ≤ middle) (upto : middle < end) where
+  -- the text in the middle is below: so are those before it
+  pub below_middle : bytes_cmp (text_of k) text ≡ Less → (n : ℕ) (d : KeyValue) → start ≤ n → n < middle + 1
+      → bytes_cmp (text_of (get_or ts n d)) text ≡ Less
+  below_middle less n d a b =
+      let here : bytes_cmp (text_of (get_or ts middle d)) text ≡ Less = ap (λ x. bytes_cmp (text_of x) text) (at d)
+      ∙ less in
+      elim (cases_lt n middle) [
+        | inl lt ↦ nat_list_cmp_total.trans _ _ text (rise n middle d a lt upto) here
+        | inr ge ↦ let same : n ≡ middle = omega arith in ap (λ j. bytes_cmp (text_of (get_or ts j d)) text) same ∙ here
+      ]
+
+  -- it is above: so are those after it
+  pub above_middle : bytes_cmp (text_of k) text ≡ Greater → (n : ℕ) (d : KeyValue) → middle ≤ n → n < end
+      → bytes_cmp (text_of (get_or ts n d)) text ≡ Greater
+  above_middle greater n d a b =
+      let here : bytes_cmp (text_of (get_or ts middle d)) text ≡ Greater = ap (λ x. bytes_cmp (text_of x) text) (at d)
+      ∙ greater in
+      let turned : bytes_cmp text (text_of (get_or ts middle d)) ≡ Less = nat_list_cmp_total.antisymm text _
+      ∙ ap ordering_reverse here in
+      elim (cases_lt middle n) [
+        | inl lt ↦ nat_list_cmp_total.antisymm _ text
+            ∙ ap ordering_reverse (nat_list_cmp_total.trans text _ _ turned (rise middle n d from lt b))
+        | inr ge ↦ let same : n ≡ middle = omega arith in ap (λ j. bytes_cmp (text_of (get_or ts j d)) text) same ∙ here
+      ]
+
+  pub found_middle : bytes_cmp (text_of k) text ≡ Equal → IsPlaceOf ts start end text (Some middle)
+  found_middle equal = (from, upto, λ d. ap text_of (at d) ∙ bytes_exact (text_of k) text equal)
+
+-- nothing is left to search
+pub found_nowhere : (ts : List KeyValue) (start end : ℕ) (text : List ℕ) (low high : ℕ) → high ≤ low
+    → ((n : ℕ) (d : KeyValue) → start ≤ n → n < low → bytes_cmp (text_of (get_or ts n d)) text ≡ Less)
+    → ((n : ℕ) (d : KeyValue) → high ≤ n → n < end → bytes_cmp (text_of (get_or ts n d)) text ≡ Greater)
+    → IsPlaceOf ts start end text None
+found_nowhere ts start end text low high met below above n d a b e =
+    let tie : bytes_cmp (text_of (get_or ts n d)) text ≡ Equal =
+    ap (λ x. bytes_cmp x text) e ∙ tied_itself nat_list_cmp_total text in
+    elim (cases_lt n low) [
+      | inl lt ↦ true≢false (sym (ap is_eq tie) ∙ ap is_eq (below n d a lt))
+      | inr ge ↦ true≢false (sym (ap is_eq tie) ∙ ap is_eq (above n d (omega arith) b))
+    ]
+
+-- what is found in a later part is found in the whole, where all before it is below
+pub found_later : (ts : List KeyValue) (start first end : ℕ) (text : List ℕ) → start ≤ first
+    → ((n : ℕ) (d : KeyValue) → start ≤ n → n < first → bytes_cmp (text_of (get_or ts n d)) text ≡ Less)
+    → (place : Option ℕ) → IsPlaceOf ts first end text place → IsPlaceOf ts start end text place
+found_later ts start first end text le below None none =
+    λ n d a b e. elim (cases_lt n first) [
+      | inl lt ↦ false≢true (sym (ap is_eq (below n d a lt))
+          ∙ ap is_eq (ap (λ x. bytes_cmp x text) e ∙ tied_itself nat_list_cmp_total text))
+      | inr ge ↦ none n d ge b e
+    ]
+found_later ts start first end text le below (Some place) found = (let a = found.0 in omega arith, found.1, found.2)
 
 -- ---- the number of a key
 

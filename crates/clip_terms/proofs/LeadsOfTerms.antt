@@ -1,20 +1,16 @@
 -- Terms and their leads, one after another.
-use Rattle.std.proofs.Common.{◌≡◌, ℕ, zero, suc, ◌<◌, ◌≤◌, List, [], ◌∷◌, ◌++◌, length, map, get_or, Less}
-use Rattle.std.proofs.Common.{Equal, Greater, is_gt, ◌+◌, refl, sym, ap, subst, ◌∙◌, arith}
-use Rattle.std.proofs.Common.{inl, inr, Option, Some, None, Ordering, true, false, is_eq}
-use Rattle.std.specs.Cmp.{tied_itself}
-use Rattle.std.specs.Prelude.{MatchOption, IfSome}
+use Rattle.std.proofs.Common.{◌≡◌, ℕ, zero, suc, ◌<◌, ◌≤◌, List, [], ◌∷◌, ◌++◌, length, map, take, drop, get_or, Less}
+use Rattle.std.proofs.Common.{Equal, Greater, is_gt, nat_lt, if◌then◌else◌, ◌+◌, ◌-◌, refl, sym, ap, subst, ◌∙◌, arith}
+use Rattle.std.proofs.Common.{inl, inr}
 use Rattle.std.specs.Ordering.{ordering_reverse}
 use Rattle.std.specs.Cmp.Lexicographic.{nat_list_cmp_total}
-use Rattle.std.proofs.lemmas.Bool.{cases_lt, false≢true}
+use Rattle.std.proofs.lemmas.Bool.{cases_lt, lt-ltb, le-ltb, false≢true}
 use Rattle.std.proofs.lemmas.List.{get_or-map, get_or_default}
 use Rattle.clip_words.specs.Order.{bytes_cmp}
 use Rattle.clip_meaning.specs.Leads.{IsLead}
-use Rattle.clip_meaning.proofs.Fields.{bytes_exact}
 use Rattle.clip_meaning.proofs.Leads.{lead_below, leads_tie}
 use Rattle.clip_extract.specs.Keys.{KeyValue, Any, key_of, text_of}
 use Rattle.clip_extract.specs.declared.key.Key.{Key}
-use Rattle.clip_terms.specs.Steps.LeadChains.{IsNext}
 use Rattle.clip_terms.specs.Steps.Leads.{AreLeads, IsShortLength, AreShortLengths, NeverFall, TextsRise}
 
 pub leads_long : (ts : List KeyValue) (leads : List ℕ) → AreLeads ts leads → length leads ≡ length ts
@@ -90,48 +86,69 @@ never_fall ts leads start end are within rise m n a lt b =
       | inr ge ↦ ge
     ]
 
--- ---- from one term of a lead to the next
+-- and texts of lesser leads than a text's are below it
+pub all_below : (ts : List KeyValue) (leads : List ℕ) (start end : ℕ) (text : List ℕ) (lead : ℕ) → AreLeads ts leads
+    → IsLead text lead → end ≤ length ts
+    → ((n : ℕ) → start ≤ n → n < end → get_or leads n 0 < lead)
+    → (n : ℕ) (d : KeyValue) → start ≤ n → n < end → bytes_cmp (text_of (get_or ts n d)) text ≡ Less
+all_below ts leads start end text lead are is within lower n d a b =
+    lead_below (text_of (get_or ts n d)) text (get_or leads n 0) lead (lead_at ts leads are n d (omega arith)) is
+    (lower n a b)
 
--- no term of the text, from a place on, is before the first one of its lead
-pub not_before : (ts : List KeyValue) (leads : List ℕ) (text : List ℕ) (lead from : ℕ) → AreLeads ts leads
-    → IsLead text lead → (next : Option ℕ) → IsNext leads lead from next → (n : ℕ) (d : KeyValue) → from ≤ n
-    → n < length ts → text_of (get_or ts n d) ≡ text → MatchOption next ⊥ (λ p. p ≤ n)
-not_before ts leads text lead from are is next first n d a b e = by_place next first
-  where
-    same : get_or leads n 0 ≡ lead
-    same = (subst (λ t. IsLead t (get_or leads n 0)) e (lead_at ts leads are n d b)).number ∙ sym is.number
+-- and texts from a place on, at which a greater lead stands, are above it
+pub all_above : (ts : List KeyValue) (leads : List ℕ) (start end : ℕ) (text : List ℕ) (lead first : ℕ)
+    → AreLeads ts leads → IsLead text lead → end ≤ length ts → NeverFall leads start end → start ≤ first
+    → lead < get_or leads first 0
+    → (n : ℕ) (d : KeyValue) → first ≤ n → n < end → bytes_cmp (text_of (get_or ts n d)) text ≡ Greater
+all_above ts leads start end text lead first are is within fall from high n d a b =
+    let more : lead < get_or leads n 0 =
+    elim (cases_lt first n) [
+      | inl lt ↦ omega (arith, fall first n from lt b, high)
+      | inr ge ↦ let same : first ≡ n = omega arith in subst (λ j. lead < get_or leads j 0) same high
+    ] in
+    nat_list_cmp_total.antisymm (text_of (get_or ts n d)) text
+    ∙ ap ordering_reverse (lead_below text (text_of (get_or ts n d)) lead (get_or leads n 0) is
+    (lead_at ts leads are n d (omega arith)) more)
 
-    inside : n < length leads
-    inside = omega (arith, b, leads_long ts leads are)
-
-    by_place : (next : Option ℕ) → IsNext leads lead from next → MatchOption next ⊥ (λ p. p ≤ n)
-    by_place None none = none n a inside same
-    by_place (Some p) first =
-        elim (cases_lt n p) [
-          | inl lt ↦ absurd (first.3 n a lt same)
-          | inr ge ↦ ge
-        ]
-
--- a first one has the lead of the text
-pub of_text : (leads : List ℕ) (text : List ℕ) (lead from : ℕ) → IsLead text lead → (next : Option ℕ)
-    → IsNext leads lead from next → IfSome next (λ p. (p < length leads) × IsLead text (get_or leads p 0))
-of_text leads text lead from is None none = tt
-of_text leads text lead from is (Some p) first = (first.1, subst (IsLead text) (sym first.2) is)
-
--- what is not another place is the next one or behind it
-pub behind : (place n : ℕ) → place ≤ n → (n ≡ place → ⊥) → place + 1 ≤ n
-behind place n from other =
-    elim (cases_lt place n) [
-      | inl lt ↦ omega (arith, lt)
-      | inr ge ↦ absurd (other (omega (arith, from, ge)))
+-- where leads never fall, none up to a place of a lesser lead is greater
+pub lesser_up_to : (leads : List ℕ) (start end place lead : ℕ) → NeverFall leads start end → place < end
+    → get_or leads place 0 < lead
+    → (n : ℕ) → start ≤ n → n ≤ place → get_or leads n 0 < lead
+lesser_up_to leads start end place lead fall within less n a b =
+    elim (cases_lt n place) [
+      | inl lt ↦ omega (arith, fall n place a lt within, less)
+      | inr ge ↦ let same : place ≡ n = omega arith in subst (λ j. get_or leads j 0 < lead) same less
     ]
 
--- texts that compare as equal are the same, and the same texts compare so
-pub same_text : (o : Ordering) (x y : List ℕ) → o ≡ bytes_cmp x y → is_eq o ≡ true → x ≡ y
-same_text Less x y is equal = absurd (false≢true equal)
-same_text Equal x y is equal = bytes_exact x y (sym is)
-same_text Greater x y is equal = absurd (false≢true equal)
+-- a step of a power of two from a place, taken where the last lead that it passes is lesser
+pub stepped : (leads : List ℕ) (start end low step lead taken : ℕ) → NeverFall leads start end → start ≤ low → 0 < step
+    → low + step ≤ end
+    → taken ≡ (if nat_lt (get_or leads (low + (step - 1)) 0) lead then step else 0)
+    → ((n : ℕ) → start ≤ n → n < low → get_or leads n 0 < lead)
+    → (taken ≤ step) × ((n : ℕ) → start ≤ n → n < low + taken → get_or leads n 0 < lead)
+stepped leads start end low step lead taken fall from some within is before =
+    elim (cases_lt (get_or leads (low + (step - 1)) 0) lead) [
+      | inl less ↦
+          let all : taken ≡ step = is ∙ ap (λ b. if b then step else 0) (lt-ltb _ _ less) in (
+            omega arith,
+            λ n a b. lesser_up_to leads start end (low + (step - 1)) lead fall (omega arith) less n a
+                (omega arith),
+          )
+      | inr ge ↦
+          let none : taken ≡ 0 = is ∙ ap (λ b. if b then step else 0) (le-ltb _ _ ge) in
+          (omega arith, λ n a b. before n a (omega arith))
+    ]
 
-pub same_compares : (o : Ordering) (x y : List ℕ) → o ≡ bytes_cmp x y → is_eq o ≡ false → x ≡ y → ⊥
-same_compares o x y is unequal same =
-    false≢true (sym unequal ∙ ap is_eq (is ∙ ap (λ z. bytes_cmp z y) same ∙ tied_itself nat_list_cmp_total y))
+-- ---- what is left from a place on
+
+pub some_left : (k n : ℕ) (xs : List ℕ) → 0 < k → n < length xs → 0 < length (take k (drop n xs))
+some_left k n [] some inside = absurd (omega arith)
+some_left zero n (x ∷ xs) some inside = absurd (omega arith)
+some_left (suc k) zero (x ∷ xs) some inside = omega arith
+some_left (suc k) (suc n) (x ∷ xs) some inside = some_left (suc k) n xs some (omega arith)
+
+pub first_left : (k n : ℕ) (xs : List ℕ) → 0 < k → n < length xs → get_or (take k (drop n xs)) 0 0 ≡ get_or xs n 0
+first_left k n [] some inside = absurd (omega arith)
+first_left zero n (x ∷ xs) some inside = absurd (omega arith)
+first_left (suc k) zero (x ∷ xs) some inside = refl
+first_left (suc k) (suc n) (x ∷ xs) some inside = first_left (suc k) n xs some (omega arith)

@@ -6,7 +6,6 @@ pub mod FieldTerms
 pub mod Flags
 pub mod Fronts
 pub mod KeysByField
-pub mod LeadChains
 pub mod Leads
 pub mod Merging
 pub mod Numbers

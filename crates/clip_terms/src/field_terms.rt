@@ -1,34 +1,34 @@
 //! The terms of one field, found by the first bytes of their texts.
-ghost use Rattle.std.specs.Prelude.{◌≡◌, ℕ, true, ◌<◌, ◌≤◌, OnOk, map, length, slice_index};
+ghost use Rattle.std.specs.Prelude.{◌≡◌, ℕ, true, ◌<◌, ◌≤◌, ◌^◌, if◌then◌else◌, OnOk, map, length, slice_index};
 ghost use Rattle.std.specs.Str.{bytes_eq, IsUtf8};
 ghost use Rattle.std.specs.List.{All};
 ghost use Rattle.clip_extract.specs.Covering.{front_keys};
 ghost use Rattle.clip_extract.specs.Keys.{Word, Front, key_of};
 ghost use Rattle.clip_terms.specs.Terms.{number_of};
 ghost use Rattle.clip_terms.specs.Steps.Fronts.{AddsNumbersOf};
-ghost use Rattle.clip_terms.specs.Steps.LeadChains.{AreChained};
-ghost use Rattle.clip_terms.specs.Steps.Leads.{AreLeads, AreShortLengths, IsPlaceOf, IsPast};
+ghost use Rattle.clip_terms.specs.Steps.Leads.{AreLeads, AreShortLengths, NeverFall, TextsRise, IsPlaceOf, IsPast};
 ghost use Rattle.clip_terms.specs.Steps.KeysByField.{ordered_keys};
 
-use crate::lead_chains::LeadChains;
 use crate::leads::Sought;
+use crate::likely::{SIDE_BY_SIDE, likely_places};
 use crate::terms::Terms;
 use clip_extract::{Key, has_front_key};
 use clip_meaning::Field;
 use clip_words::NoMemory;
+use std::cmp::Ordering;
 use std::marker::Model;
 use std::ops::Range;
 
 /// The terms of one field, and where they are among all terms. Contracts see the terms and the name of the field.
 ///
-/// A text is looked up by its first eight bytes, as a number, of which a hash leads to the terms that begin with the
-/// same; texts are compared only where the length does not settle it, since one of them is longer.
+/// A word is searched for by its first eight bytes, as a number, among those of the field's words, which lie side by
+/// side; texts are compared only where these bytes are the same and the length does not settle it, since one of them is
+/// longer. Fronts are found by such a search among the field's fronts.
 #[derive(Drop)]
 pub struct FieldTerms<'a> {
     keys: &'a [Key],
     leads: &'a [u64],
     lengths: &'a [u8],
-    chains: &'a LeadChains,
     field: &'a str,
     words: Range<usize>,
     fronts: Range<usize>,
@@ -45,6 +45,54 @@ impl<'a> Model for FieldTerms<'a> {
     ghost view = { field_terms_of };
 
     ghost invariant = { AreFieldTerms };
+}
+
+/// Two to this power where a step is taken, else 0. Shifted and neither branched to nor chosen, of which the compiler
+/// makes a branch: which way a search goes can't be foreseen.
+pub(crate) fn step_if(taken: bool, bits: u32) -> usize
+    requires { bits < 64 }
+    ensures { result ≡ (if taken then 2 ^ bits else 0) }
+{
+    usize::from(taken) << bits
+}
+
+/// The first place of a part whose lead is not below this one. In a part no lead is below one before it.
+fn first_of_lead(leads: &[u64], part: &Range<usize>, lead: u64) -> usize
+    requires within { part.now.end ≤ length leads.now }
+    requires rise { NeverFall leads.now part.now.start part.now.end }
+    ensures from { part.now.start ≤ result }
+    ensures below { (n : ℕ) → part.now.start ≤ n → n < result → slice_index leads.now n < lead }
+{
+    let mut low = part.start;
+    let count = part.end.saturating_sub(low);
+    if count == 0 {
+        return low;
+    }
+    let mut bits = count.ilog2();
+    let most = 1usize << bits;
+    if leads[low + (most - 1)] < lead {
+        low += count - most + 1;
+    }
+    while bits > 0 {
+        bits -= 1;
+        let step = 1usize << bits;
+        low += step_if(leads[low + (step - 1)] < lead, bits);
+    }
+    low
+}
+
+/// The first place in a part whose lead is not below this one, as `first_of_lead` finds it; a place that is likely
+/// to be it is looked at first.
+fn first_near(leads: &[u64], part: &Range<usize>, lead: u64, likely: usize) -> usize
+    requires within { part.now.end ≤ length leads.now }
+    requires rise { NeverFall leads.now part.now.start part.now.end }
+    ensures from { part.now.start ≤ result }
+    ensures below { (n : ℕ) → part.now.start ≤ n → n < result → slice_index leads.now n < lead }
+{
+    if part.start < likely && likely <= part.end && leads[likely - 1] < lead {
+        return likely;
+    }
+    first_of_lead(leads, part, lead)
 }
 
 /// The first place from one on whose lead is not below this one.
@@ -73,36 +121,63 @@ fn is_past(leads: &[u64], place: usize, lead: u64, short: u8) -> bool
     *first > lead && *first - lead >= span
 }
 
-/// Where the key of a text is in a part of keys. Goes from one key of the text's lead to the next.
-fn place_of(
+/// Where the key of a text is among keys whose texts rise.
+fn place_among(
     keys: &[Key],
     leads: &[u64],
     lengths: &[u8],
-    chains: &LeadChains,
     part: &Range<usize>,
     sought: &Sought<'_>,
 ) -> Option<usize>
     requires within { part.now.end ≤ length keys.now }
     requires leads { AreLeads (map key_of keys.now) leads.now }
     requires lengths { AreShortLengths (map key_of keys.now) lengths.now }
-    requires chained { AreChained leads.now chains.now }
+    requires rise { TextsRise (map key_of keys.now) part.now.start part.now.end }
     ensures { IsPlaceOf (map key_of keys.now) part.now.start part.now.end sought.now result }
 {
-    let mut next = chains.first(leads, sought.lead());
-    while let Some(place) = next {
-        if place >= part.end {
-            return None;
+    let mut low = part.start;
+    let mut high = part.end;
+    while low < high {
+        let middle = low + (high - low) / 2;
+        match sought.order(&keys[middle], leads[middle], lengths[middle]) {
+            Ordering::Less => low = middle + 1,
+            Ordering::Greater => high = middle,
+            Ordering::Equal => return Some(middle),
         }
-        if part.start <= place
-            && sought
-                .order(&keys[place], leads[place], lengths[place])
-                .is_eq()
-        {
-            return Some(place);
-        }
-        next = chains.next(leads, place);
     }
     None
+}
+
+/// Where the key of a text is among keys whose texts rise. Mostly this is the first key of the text's lead, or no
+/// key has that lead: so the first is looked for by leads alone, from the place on where it is likely, and a key is
+/// looked at only where it has the lead.
+fn place_of(
+    keys: &[Key],
+    leads: &[u64],
+    lengths: &[u8],
+    part: &Range<usize>,
+    sought: &Sought<'_>,
+    likely: usize,
+) -> Option<usize>
+    requires within { part.now.end ≤ length keys.now }
+    requires leads { AreLeads (map key_of keys.now) leads.now }
+    requires lengths { AreShortLengths (map key_of keys.now) lengths.now }
+    requires rise { TextsRise (map key_of keys.now) part.now.start part.now.end }
+    ensures { IsPlaceOf (map key_of keys.now) part.now.start part.now.end sought.now result }
+{
+    let lead = sought.lead();
+    let first = first_near(leads, part, lead, likely);
+    if first >= part.end {
+        return None;
+    }
+    if leads[first] > lead {
+        return None;
+    }
+    match sought.order(&keys[first], leads[first], lengths[first]) {
+        Ordering::Less => place_among(keys, leads, lengths, &(first + 1..part.end), sought),
+        Ordering::Greater => None,
+        Ordering::Equal => Some(first),
+    }
 }
 
 impl<'a> FieldTerms<'a> {
@@ -112,12 +187,10 @@ impl<'a> FieldTerms<'a> {
     {
         terms.order_law();
         let (words, fronts) = terms.ranges_of(field);
-        let (leads, chains) = terms.chains();
         FieldTerms {
             keys: terms.keys(),
-            leads,
+            leads: terms.leads(),
             lengths: terms.lengths(),
-            chains,
             field,
             words,
             fronts,
@@ -131,43 +204,51 @@ impl<'a> FieldTerms<'a> {
         self.field == field
     }
 
-    /// The number of a word of the field, `None` where it is no term. Takes no memory. Cost: a step for each term whose
-    /// first eight bytes have the same hash: few, but for words that have these bytes in common.
+    /// The number of a word of the field, `None` where it is no term. Takes no memory. Cost: a binary search among the
+    /// field's words.
     pub fn word(&self, word: &str) -> Option<u32>
         ensures { result ≡ number_of self.now.terms (Word self.now.field word.now) }
     {
-        self.sought_word(&Sought::of(word))
+        self.word_near(&Sought::of(word), self.words.start)
     }
 
-    /// The number of a word of the field that is looked for, `None` where it is no term.
-    pub(crate) fn sought_word(&self, word: &Sought<'_>) -> Option<u32>
+    /// The number of a word of the field, `None` where it is no term, which is likely at a place if it is one.
+    pub(crate) fn word_near(&self, word: &Sought<'_>, likely: usize) -> Option<u32>
         ensures { result ≡ number_of self.now.terms (Word self.now.field word.now) }
     {
         match place_of(
             self.keys,
             self.leads,
             self.lengths,
-            self.chains,
             &self.words,
             word,
+            likely,
         ) {
             Some(place) => Some(place as u32),
             None => None,
         }
     }
 
-    /// The number of a front of the field, `None` where it is no term. Takes no memory. Cost: that of `word`.
+    /// For each of the first of these leads, where a word of that lead likely is. Cost: that of binary searches,
+    /// which wait for memory together.
+    pub(crate) fn likely_places(&self, leads: &[u64]) -> [usize; SIDE_BY_SIDE] {
+        likely_places(self.leads, &self.words, leads)
+    }
+
+    /// The number of a front of the field, `None` where it is no term. Takes no memory. Cost: a binary search among the
+    /// field's fronts.
     pub fn front(&self, text: &str) -> Option<u32>
         ensures { result ≡ number_of self.now.terms (Front self.now.field text.now) }
     {
         let text = Sought::of(text);
+        let likely = self.fronts.start;
         match place_of(
             self.keys,
             self.leads,
             self.lengths,
-            self.chains,
             &self.fronts,
             &text,
+            likely,
         ) {
             Some(place) => Some(place as u32),
             None => None,

@@ -1,5 +1,5 @@
 //! The numbers of an article's keys.
-ghost use Rattle.std.specs.Prelude.{◌≡◌, ◌++◌, [], IfOk, OnOk, map};
+ghost use Rattle.std.specs.Prelude.{◌≡◌, ◌++◌, [], ◌<◌, IfOk, OnOk, length, map, slice_index};
 ghost use Rattle.std.specs.Prelude.{option_map, option_to_list};
 ghost use Rattle.std.specs.Arc.{arc_str_bytes};
 ghost use Rattle.std.specs.List.Sorted.{IsStrictlySortedBy};
@@ -15,12 +15,31 @@ ghost use Rattle.clip_terms.specs.Steps.Fronts.{other_fronts, asked_fronts, Adds
 
 use crate::field_terms::FieldTerms;
 use crate::leads::Sought;
+use crate::likely::LikelyPlaces;
 use crate::terms::Terms;
 use clip_extract::{Fronts, Key};
 use clip_meaning::{Field, Posting};
 use clip_words::NoMemory;
 use std::alloc::Global;
 use std::sync::ArcStr;
+
+/// The number of a word of a field, none of one that is no term. The first of these leads is that of the word, whose
+/// short length this is, and the others are likely those of the words after it.
+fn word_number(
+    of_field: &FieldTerms<'_>,
+    likely: &mut LikelyPlaces,
+    word: &ArcStr,
+    leads: &[u64],
+    short: u8,
+) -> Option<u32>
+    requires some { 0 < length leads.now }
+    requires lead { IsLead (arc_str_bytes word.now) (slice_index leads.now 0) }
+    requires short { IsShortLength (arc_str_bytes word.now) short }
+    ensures { result ≡ number_of of_field.now.terms (Word of_field.now.field (arc_str_bytes word.now)) }
+{
+    let place = likely.next(of_field, leads);
+    of_field.word_near(&Sought::with(word, leads[0], short), place)
+}
 
 /// The numbers of words of a field, beside which their leads and short lengths are given, in order; none of a word that
 /// is no term.
@@ -38,24 +57,29 @@ pub(crate) fn word_numbers(
         (map (λ w. Word of_field.now.field (arc_str_bytes w.now)) words.now)) }
 {
     let mut numbers = Vec::with_capacity(alloc, words.len())?;
+    let mut likely = LikelyPlaces::none();
     for place in 0..words.len() {
-        let word = Sought::with(words[place], leads[place], lengths[place]);
-        numbers.push(of_field.sought_word(&word))?;
+        let from = &leads[place..];
+        let short = lengths[place];
+        numbers.push(word_number(of_field, &mut likely, words[place], from, short))?;
     }
     Ok(numbers)
 }
 
-/// The number of a key, none of a key that is no term, where this is the lead of its text, and this the short length.
-/// The terms of a field become those of its field.
+/// The number of a key, none of a key that is no term. The first of these leads is that of the key's text, whose short
+/// length this is, and the others are likely those of the keys after it. The terms of a field become those of its
+/// field.
 fn key_number<'a>(
     terms: &'a Terms,
     of_field: &mut FieldTerms<'a>,
+    likely: &mut LikelyPlaces,
     key: &'a Key,
-    lead: u64,
+    leads: &[u64],
     short: u8,
 ) -> Option<u32>
     requires terms { of_field.old.terms ≡ terms.now }
-    requires lead { IsLead (text_of (key_of key.now)) lead }
+    requires some { 0 < length leads.now }
+    requires lead { IsLead (text_of (key_of key.now)) (slice_index leads.now 0) }
     requires short { IsShortLength (text_of (key_of key.now)) short }
     ensures terms { of_field.new.terms ≡ terms.now }
     ensures number { result ≡ number_of terms.now (key_of key.now) }
@@ -65,8 +89,9 @@ fn key_number<'a>(
     };
     if !of_field.is_of(field) {
         *of_field = terms.of_field(field);
+        likely.clear();
     }
-    of_field.sought_word(&Sought::with(word, lead, short))
+    word_number(of_field, likely, word, leads, short)
 }
 
 /// The numbers of keys, beside which their leads and short lengths are given, in order; none of a key that is no term.
@@ -84,9 +109,12 @@ pub(crate) fn key_numbers<'a>(
 {
     let mut numbers = Vec::with_capacity(alloc, keys.len())?;
     let mut of_field = terms.of_field("");
+    let mut likely = LikelyPlaces::none();
     for place in 0..keys.len() {
         let key = &keys[place];
-        numbers.push(key_number(terms, &mut of_field, key, leads[place], lengths[place]))?;
+        let from = &leads[place..];
+        let short = lengths[place];
+        numbers.push(key_number(terms, &mut of_field, &mut likely, key, from, short))?;
     }
     Ok(numbers)
 }

@@ -3,12 +3,10 @@ ghost use Rattle.std.specs.Prelude.{◌≡◌, ◌<◌, ◌≤◌, ◌==◌, [],
 ghost use Rattle.std.specs.List.Sorted.{IsStrictlySortedBy};
 ghost use Rattle.clip_extract.specs.Keys.{Word, Front, key_of, key_cmp, in_order};
 ghost use Rattle.clip_terms.specs.Terms.{number_of, term_at};
-ghost use Rattle.clip_terms.specs.Steps.LeadChains.{AreChained};
 ghost use Rattle.clip_terms.specs.Steps.Leads.{heading, AreLeads, AreShortLengths, IsPart};
 
 use crate::field_terms::FieldTerms;
 use crate::heads::{Head, head_leads, head_lengths, keys_of};
-use crate::lead_chains::LeadChains;
 use crate::leads::{leads_of, lengths_of};
 use crate::numbering::key_numbers;
 use crate::parts::{FieldPart, parts_of, ranges_of, words_of};
@@ -24,14 +22,13 @@ pub const MOST_TERMS: usize = 4_294_967_295;
 /// Keys in order, each once and numbered from 0. Contracts see the list of the keys.
 ///
 /// The leads and the short lengths of their texts are kept beside them, by which most are told apart without a look at
-/// them, with chains by which those of one lead are found; and where the words and the fronts of each field stand.
+/// them, and where the words and the fronts of each field stand.
 #[derive(Debug)]
 pub struct Terms {
     keys: Vec<Key>,
     leads: Vec<u64>,
     lengths: Vec<u8>,
     parts: Vec<FieldPart>,
-    chains: LeadChains,
 }
 
 impl Drop for Terms {
@@ -41,7 +38,6 @@ impl Drop for Terms {
             leads: _,
             lengths: _,
             parts: _,
-            chains: _,
         } = self;
     }
 }
@@ -53,7 +49,6 @@ impl Model for Terms {
     ghost use Rattle.clip_extract.specs.Keys.{KeyValue, key_of, key_cmp};
     ghost use Rattle.clip_terms.specs.Steps.Leads.{AreLeads, AreShortLengths};
     ghost use Rattle.clip_terms.specs.Steps.Parts.{IsFieldPart};
-    ghost use Rattle.clip_terms.specs.Steps.LeadChains.{AreChained};
     ghost use Rattle.clip_terms.specs.declared.terms.TheConstants.{MOST_TERMS};
 
     ghost Value = { List KeyValue };
@@ -63,7 +58,7 @@ impl Model for Terms {
     ghost invariant = { λ t. IsStrictlySortedBy key_cmp (map key_of t.keys.items) × (length t.keys.items ≤ MOST_TERMS)
         × AreLeads (map key_of t.keys.items) t.leads.items
         × AreShortLengths (map key_of t.keys.items) t.lengths.items
-        × All (IsFieldPart (map key_of t.keys.items)) t.parts.items × AreChained t.leads.items t.chains };
+        × All (IsFieldPart (map key_of t.keys.items)) t.parts.items };
 }
 
 impl Terms {
@@ -81,13 +76,11 @@ impl Terms {
         let leads = leads_of(*keys.allocator(), &keys)?;
         let lengths = lengths_of(*keys.allocator(), &keys)?;
         let parts = parts_of(*keys.allocator(), &keys)?;
-        let chains = LeadChains::of(*keys.allocator(), &leads)?;
         Ok(Terms {
             keys,
             leads,
             lengths,
             parts,
-            chains,
         })
     }
 
@@ -106,13 +99,11 @@ impl Terms {
         let leads = head_leads(alloc, heads)?;
         let lengths = head_lengths(alloc, heads)?;
         let parts = parts_of(alloc, &keys)?;
-        let chains = LeadChains::of(alloc, &leads)?;
         Ok(Terms {
             keys,
             leads,
             lengths,
             parts,
-            chains,
         })
     }
 
@@ -130,8 +121,8 @@ impl Terms {
         self.keys.is_empty()
     }
 
-    /// The number of a key, `None` where it is no term. Takes no memory. Cost: a binary search among the fields, and a
-    /// look-up by the first bytes of its text, as of `FieldTerms::word`.
+    /// The number of a key, `None` where it is no term. Takes no memory. Cost: a binary search among the fields, and
+    /// one among the words or the fronts of the key's field, by the first bytes of its text.
     pub fn number(&self, key: &Key) -> Option<u32>
         ensures { result ≡ number_of self.now (key_of key.now) }
     {
@@ -175,14 +166,6 @@ impl Terms {
         &self.leads
     }
 
-    /// Where the leads are, by hash. Constant time.
-    pub(crate) fn chains(&self) -> (&[u64], &LeadChains)
-        ensures leads { AreLeads self.now result.0.now }
-        ensures chained { AreChained result.0.now result.1.now }
-    {
-        (&self.leads, &self.chains)
-    }
-
     /// The short lengths of the keys' texts. Constant time.
     pub(crate) fn lengths(&self) -> &[u8]
         ensures { AreShortLengths self.now result.now }
@@ -208,7 +191,8 @@ impl Terms {
 
     /// The numbers of other terms, in their order; none of one that is no term here.
     ///
-    /// `NoMemory` where an allocation failed. Cost: a look-up for each of them, as of `FieldTerms::word`.
+    /// `NoMemory` where an allocation failed. Cost: a binary search for each of them, by the first bytes of its
+    /// text, which are known; a text is looked at where it is longer than these.
     pub fn numbers(&self, alloc: Global, others: &Terms) -> Result<Vec<Option<u32>>, NoMemory>
         ensures { IfOk result (λ numbers. numbers.items ≡ map (number_of self.now) others.now) }
     {

@@ -1,102 +1,142 @@
-use Rattle.std.proofs.Common.{◌≡◌, ℕ, ◌+◌, ◌<◌, ◌≤◌, Option, length, map, get_or, subst, sym, ap, ◌∙◌, arith}
-use Rattle.std.specs.Prelude.{MatchOption, IfSome}
+use Rattle.std.proofs.Common.{◌+◌, ◌<◌, ◌≤◌, length, map, get_or, sym, subst, arith}
 use Rattle.std.proofs.lemmas.List.{length-map}
 use Rattle.clip_meaning.specs.Leads.{IsLead}
 use Rattle.clip_extract.specs.Keys.{KeyValue, key_of, text_of}
 use Rattle.clip_terms.specs.Steps.Leads.{IsShortLength}
-use Rattle.clip_terms.proofs.LeadsOfTerms.{lead_at, lengths_long, length_at, read_at, not_before, of_text}
-use Rattle.clip_terms.proofs.LeadsOfTerms.{behind, same_text, same_compares}
+use Rattle.clip_terms.proofs.Headings.{below_middle, above_middle, found_middle, found_nowhere, found_later}
+use Rattle.clip_terms.proofs.LeadsOfTerms.{leads_long, lead_at, lengths_long, length_at, read_at, never_fall, all_below}
+use Rattle.clip_terms.proofs.LeadsOfTerms.{all_above}
 use Rattle.clip_terms.proofs.field_terms.place_of.Goals as goal
-use Rattle.clip_terms.proofs.field_terms.place_of.Goals.{else-part-place-via-then-part-place+else-is_eq}
-use Rattle.clip_terms.proofs.field_terms.place_of.Goals.{else-part-place-via-else-part-place}
 
-pub loop-next-init : goal.loop-next-init
-loop-next-init c =
-    let ts = map key_of c.args.keys.now in
-    let leads = c.args.leads.now in
-    let text = c.args.sought.now in
-    record {
-      there = of_text leads text c.lead.result 0 c.lead.ensures c.first-next.result c.first-next.ensures;
-      first = λ n d a b e.
-          not_before ts leads text c.lead.result 0 c.requires.leads c.lead.ensures c.first-next.result
-          c.first-next.ensures n d (omega arith)
-          (omega (arith, b, c.requires.within, length-map c.args.keys.now key_of)) e;
-    }
-
-pub bounds-lengths-place : goal.bounds-lengths-place
-bounds-lengths-place c =
+pub first_near-first-requires-clause-within : goal.first_near-first-requires-clause-within
+first_near-first-requires-clause-within c =
     omega (
       arith,
-      c.if-place-part.false,
       c.requires.within,
-      lengths_long (map key_of c.args.keys.now) c.args.lengths.now c.requires.lengths,
+      leads_long (map key_of c.args.keys.now) c.args.leads.now c.requires.leads,
+      length-map c.args.keys.now key_of,
+    )
+
+pub first_near-first-requires-clause-rise : goal.first_near-first-requires-clause-rise
+first_near-first-requires-clause-rise c =
+    never_fall (map key_of c.args.keys.now) c.args.leads.now c.args.part.now.start c.args.part.now.end c.requires.leads
+    (omega (arith, c.requires.within, length-map c.args.keys.now key_of)) c.requires.rise
+
+pub returns-then-first-part : goal.returns-then-first-part
+returns-then-first-part c =
+    let ts = map key_of c.args.keys.now in
+    let start = c.args.part.now.start in
+    let end = c.args.part.now.end in
+    let within : end ≤ length ts = omega (arith, c.requires.within, length-map c.args.keys.now key_of) in
+    let upto : end ≤ c.first_near-first.result = c.if-first-part.true in
+    found_nowhere ts start end c.args.sought.now end end (omega arith)
+    (all_below ts c.args.leads.now start end c.args.sought.now c.lead-lead.result c.requires.leads c.lead-lead.ensures
+    within (λ n a b. c.first_near-first.ensures.below n a (omega arith)))
+    (λ n d a b. absurd (omega arith))
+
+pub bounds-leads-first : goal.bounds-leads-first
+bounds-leads-first c = omega (
+  arith,
+  c.if-first-part.false,
+  c.requires.within,
+  leads_long (map key_of c.args.keys.now) c.args.leads.now c.requires.leads,
+  length-map c.args.keys.now key_of,
+)
+
+pub returns-then-leads-first : goal.returns-then-leads-first
+returns-then-leads-first c =
+    let ts = map key_of c.args.keys.now in
+    let start = c.args.part.now.start in
+    let end = c.args.part.now.end in
+    let first = c.first_near-first.result in
+    let within : end ≤ length ts = omega (arith, c.requires.within, length-map c.args.keys.now key_of) in
+    found_nowhere ts start end c.args.sought.now first first (omega arith)
+    (all_below ts c.args.leads.now start first c.args.sought.now c.lead-lead.result c.requires.leads
+    c.lead-lead.ensures (omega (arith, within, c.if-first-part.false)) c.first_near-first.ensures.below)
+    (all_above ts c.args.leads.now start end c.args.sought.now c.lead-lead.result first c.requires.leads
+    c.lead-lead.ensures within
+    (never_fall ts c.args.leads.now start end c.requires.leads within c.requires.rise) c.first_near-first.ensures.from
+    c.if-leads-first.true)
+
+pub bounds-leads-first-2 : goal.bounds-leads-first-2
+bounds-leads-first-2 c =
+    omega (
+      arith,
+      c.if-first-part.false,
+      c.requires.within,
+      leads_long (map key_of c.args.keys.now) c.args.leads.now c.requires.leads,
       length-map c.args.keys.now key_of,
     )
 
 pub order-requires-clause-lead : goal.order-requires-clause-lead
 order-requires-clause-lead c =
     let keys = c.args.keys.now in
-    let place = c.in-Some.place in
-    let k = c.index-keys-place.result in
-    let inside : place < length keys = omega (arith, c.if-place-part.false, c.requires.within) in
-    subst (λ (t : KeyValue). IsLead (text_of t) (get_or c.args.leads.now place 0))
-    (read_at keys place k inside c.index-keys-place.is (key_of k))
-    (lead_at (map key_of keys) c.args.leads.now c.requires.leads place (key_of k)
-    (omega (arith, inside, length-map keys key_of)))
+    let first = c.first_near-first.result in
+    let k = c.index-keys-first.result in
+    let inside : first < length keys = omega (arith, c.if-first-part.false, c.requires.within) in
+    subst (λ (t : KeyValue). IsLead (text_of t) (get_or c.args.leads.now first 0))
+    (read_at keys first k inside c.index-keys-first.is (key_of k))
+    (lead_at (map key_of keys) c.args.leads.now c.requires.leads first (key_of k)
+    (omega (arith, length-map keys key_of)))
+
+pub returns-in-Less : goal.returns-in-Less
+returns-in-Less c =
+    let keys = c.args.keys.now in
+    let ts = map key_of keys in
+    let start = c.args.part.now.start in
+    let first = c.first_near-first.result in
+    let k = c.index-keys-first.result in
+    let inside : first < length keys = omega (arith, c.if-first-part.false, c.requires.within) in
+    found_later ts start (first + 1) c.args.part.now.end c.args.sought.now
+    (omega (arith, c.first_near-first.ensures.from))
+    (below_middle ts start c.args.part.now.end c.args.sought.now c.requires.rise first (key_of k)
+    (read_at keys first k inside c.index-keys-first.is) c.first_near-first.ensures.from
+    (omega (arith, c.if-first-part.false)) (sym c.in-Less.ensures))
+    c.place_among.result c.place_among.ensures
+
+pub returns-in-Greater : goal.returns-in-Greater
+returns-in-Greater c =
+    let keys = c.args.keys.now in
+    let ts = map key_of keys in
+    let start = c.args.part.now.start in
+    let end = c.args.part.now.end in
+    let first = c.first_near-first.result in
+    let k = c.index-keys-first.result in
+    let inside : first < length keys = omega (arith, c.if-first-part.false, c.requires.within) in
+    found_nowhere ts start end c.args.sought.now first first (omega arith)
+    (all_below ts c.args.leads.now start first c.args.sought.now c.lead-lead.result c.requires.leads
+    c.lead-lead.ensures (omega (arith, length-map keys key_of)) c.first_near-first.ensures.below)
+    (above_middle ts start end c.args.sought.now c.requires.rise first (key_of k)
+    (read_at keys first k inside c.index-keys-first.is) c.first_near-first.ensures.from
+    (omega (arith, c.if-first-part.false)) (sym c.in-Greater.ensures))
+
+pub returns-in-Equal : goal.returns-in-Equal
+returns-in-Equal c =
+    let keys = c.args.keys.now in
+    let first = c.first_near-first.result in
+    let k = c.index-keys-first.result in
+    let inside : first < length keys = omega (arith, c.if-first-part.false, c.requires.within) in
+    found_middle (map key_of keys) c.args.part.now.start c.args.part.now.end c.args.sought.now c.requires.rise first
+    (key_of k) (read_at keys first k inside c.index-keys-first.is) c.first_near-first.ensures.from
+    (omega (arith, c.if-first-part.false)) (sym c.in-Equal.ensures)
 
 pub order-requires-clause-length : goal.order-requires-clause-length
 order-requires-clause-length c =
     let keys = c.args.keys.now in
-    let place = c.in-Some.place in
-    let k = c.index-keys-place.result in
-    let inside : place < length keys = omega (arith, c.if-place-part.false, c.requires.within) in
-    subst (λ (t : KeyValue). IsShortLength (text_of t) (get_or c.args.lengths.now place 0))
-    (read_at keys place k inside c.index-keys-place.is (key_of k))
-    (length_at (map key_of keys) c.args.lengths.now c.requires.lengths place (key_of k)
-    (omega (arith, inside, length-map keys key_of)))
+    let first = c.first_near-first.result in
+    let k = c.index-keys-first.result in
+    let inside : first < length keys = omega (arith, c.if-first-part.false, c.requires.within) in
+    subst (λ (t : KeyValue). IsShortLength (text_of t) (get_or c.args.lengths.now first 0))
+    (read_at keys first k inside c.index-keys-first.is (key_of k))
+    (length_at (map key_of keys) c.args.lengths.now c.requires.lengths first (key_of k)
+    (omega (arith, length-map keys key_of)))
 
-pub returns-then-is_eq : goal.returns-then-is_eq
-returns-then-is_eq c =
-    let keys = c.args.keys.now in
-    let place = c.in-Some.place in
-    let k = c.index-keys-place.result in
-    let inside : place < length keys = omega (arith, c.if-place-part.false, c.requires.within) in (
-      c.if-part-place.true,
-      omega (arith, c.if-place-part.false),
-      λ d.
-          ap text_of (read_at keys place k inside c.index-keys-place.is d)
-          ∙ same_text c.order.result (text_of (key_of k)) c.args.sought.now c.order.ensures
-          (sym c.is_eq.ensures ∙ c.if-is_eq.true),
+pub bounds-lengths-first : goal.bounds-lengths-first
+bounds-lengths-first c =
+    omega (
+      arith,
+      c.if-first-part.false,
+      c.requires.within,
+      lengths_long (map key_of c.args.keys.now) c.args.lengths.now c.requires.lengths,
+      length-map c.args.keys.now key_of,
     )
-
-pub loop-next-preserved : goal.loop-next-preserved
-loop-next-preserved c =
-    let keys = c.args.keys.now in
-    let ts = map key_of keys in
-    let leads = c.args.leads.now in
-    let text = c.args.sought.now in
-    let place = c.in-Some.place in
-    let here = subst (λ (o : Option ℕ). IfSome o (λ p. (p < length leads) × IsLead text (get_or leads p 0)))
-    c.in-Some.is c.loop-next.invariant.there in
-    let inside : place < length keys = omega (arith, c.if-place-part.false, c.requires.within) in
-    let other : (n : ℕ) (d : KeyValue) → c.args.part.now.start ≤ n → text_of (get_or ts n d) ≡ text → n ≡ place → ⊥ =
-    λ n d a e same.
-    elim c.else-part-place.branch [
-      | else-part-place-via-then-part-place+else-is_eq w ↦
-          let k = w.index-keys-place.result in
-          same_compares w.order.result (text_of (key_of k)) text w.order.ensures
-          (sym w.is_eq.ensures ∙ w.if-is_eq.false)
-          (ap text_of (sym (read_at keys place k inside w.index-keys-place.is d))
-          ∙ ap (λ j. text_of (get_or ts j d)) (sym same) ∙ e)
-      | else-part-place-via-else-part-place w ↦ omega (arith, w.if-part-place.false, a, same)
-    ] in
-    record {
-      there = of_text leads text (get_or leads place 0) (place + 1) here.1 c.next-next.result c.next-next.ensures;
-      first = λ n d a b e.
-          not_before ts leads text (get_or leads place 0) (place + 1) c.requires.leads here.1 c.next-next.result
-          c.next-next.ensures n d
-          (behind place n
-          (subst (λ (o : Option ℕ). MatchOption o ⊥ (λ p. p ≤ n)) c.in-Some.is
-          (c.loop-next.invariant.first n d a b e)) (other n d a e))
-          (omega (arith, b, c.requires.within, length-map keys key_of)) e;
-    }

@@ -1,4 +1,4 @@
-use Rattle.std.proofs.Common.{ℕ, ◌∷◌, ◌++◌, [], List, map, take, get_or, sym, ap, subst, ◌∙◌, arith}
+use Rattle.std.proofs.Common.{◌<◌, ◌-◌, ◌∷◌, ◌++◌, [], List, map, length, take, get_or, sym, ap, subst, ◌∙◌, arith}
 use Rattle.std.proofs.Common.{Bor, Global}
 use Rattle.std.specs.Arc.{arc_str_bytes}
 use Rattle.std.specs.declared.sync.ArcStr.{ArcStr}
@@ -7,7 +7,7 @@ use Rattle.clip_meaning.specs.Leads.{IsLead}
 use Rattle.clip_extract.specs.Keys.{KeyValue, Word, text_of}
 use Rattle.clip_terms.specs.Terms.{number_of}
 use Rattle.clip_terms.specs.Steps.Leads.{IsShortLength}
-use Rattle.clip_terms.proofs.LeadsOfTerms.{leads_long, lead_at, lengths_long, length_at, key_at}
+use Rattle.clip_terms.proofs.LeadsOfTerms.{leads_long, lead_at, lengths_long, length_at, key_at, some_left, first_left}
 use Rattle.clip_terms.proofs.numbering.word_numbers.Goals as goal
 
 pub loop-place-init : goal.loop-place-init
@@ -22,9 +22,8 @@ loop-place-preserved c =
     let key = λ (w : Bor (ArcStr Global)). Word c.args.of_field.now.field (arc_str_bytes w.now) in
     let before = map key (take i words) in
     c.in_ok-push.ensures.items
-    ∙ ap (λ numbers. numbers ++ c.sought_word.result ∷ []) c.loop-place.invariant
-    ∙ ap (λ n. map number before ++ n ∷ []) (c.sought_word.ensures
-    ∙ ap (λ (text : List ℕ). number (Word c.args.of_field.now.field text)) c.with-word.ensures
+    ∙ ap (λ numbers. numbers ++ c.word_number.result ∷ []) c.loop-place.invariant
+    ∙ ap (λ n. map number before ++ n ∷ []) (c.word_number.ensures
     ∙ ap (λ (w : Bor (ArcStr Global)). number (key w)) c.index-words-place.is)
     ∙ sym (ap (map number) (map_more key words i word c.loop-place-test.true)
     ∙ map_push number before (key (get_or words i word)))
@@ -36,8 +35,18 @@ returns c =
     ∙ ap (λ (words : List (Bor (ArcStr Global))). map (number_of c.args.of_field.now.terms) (map key words))
     (take_all c.loop-place.place c.args.words.now c.loop-place-test.false)
 
-pub bounds-leads-place : goal.bounds-leads-place
-bounds-leads-place c =
+pub slice_bounds-from-count : goal.slice_bounds-from-count
+slice_bounds-from-count c =
+    let key = λ (w : Bor (ArcStr Global)). Word c.args.of_field.now.field (arc_str_bytes w.now) in
+    omega (
+      arith,
+      c.loop-place-test.true,
+      leads_long (map key c.args.words.now) c.args.leads.now c.requires.leads,
+      length-map c.args.words.now key,
+    )
+
+pub slice_bounds-from-start : goal.slice_bounds-from-start
+slice_bounds-from-start c =
     let key = λ (w : Bor (ArcStr Global)). Word c.args.of_field.now.field (arc_str_bytes w.now) in
     omega (
       arith,
@@ -56,20 +65,43 @@ bounds-lengths-place c =
       length-map c.args.words.now key,
     )
 
-pub with-word-requires-clause-lead : goal.with-word-requires-clause-lead
-with-word-requires-clause-lead c =
+pub word_number-requires-clause-some : goal.word_number-requires-clause-some
+word_number-requires-clause-some c =
+    let leads = c.args.leads.now in
+    let place = c.loop-place.place in
+    let key = λ (w : Bor (ArcStr Global)). Word c.args.of_field.now.field (arc_str_bytes w.now) in
+    let inside : place < length leads =
+    omega (
+      arith,
+      c.loop-place-test.true,
+      leads_long (map key c.args.words.now) leads c.requires.leads,
+      length-map c.args.words.now key,
+    ) in
+    some_left (length leads - place) place leads (omega (arith, inside)) inside
+
+pub word_number-requires-clause-lead : goal.word_number-requires-clause-lead
+word_number-requires-clause-lead c =
     let words = c.args.words.now in
     let leads = c.args.leads.now in
     let place = c.loop-place.place in
     let w = c.index-words-place.result in
     let key = λ (w : Bor (ArcStr Global)). Word c.args.of_field.now.field (arc_str_bytes w.now) in
-    subst (λ (t : KeyValue). IsLead (text_of t) (get_or leads place 0))
+    let inside : place < length leads =
+    omega (
+      arith,
+      c.loop-place-test.true,
+      leads_long (map key words) leads c.requires.leads,
+      length-map words key,
+    ) in
+    subst (IsLead (text_of (key w)))
+    (sym (first_left (length leads - place) place leads (omega (arith, inside)) inside))
+    (subst (λ (t : KeyValue). IsLead (text_of t) (get_or leads place 0))
     (key_at key words place w c.loop-place-test.true c.index-words-place.is (key w))
     (lead_at (map key words) leads c.requires.leads place (key w)
-    (omega (arith, c.loop-place-test.true, length-map words key)))
+    (omega (arith, c.loop-place-test.true, length-map words key))))
 
-pub with-word-requires-clause-length : goal.with-word-requires-clause-length
-with-word-requires-clause-length c =
+pub word_number-requires-clause-short : goal.word_number-requires-clause-short
+word_number-requires-clause-short c =
     let words = c.args.words.now in
     let lengths = c.args.lengths.now in
     let place = c.loop-place.place in

@@ -1,10 +1,16 @@
-use Rattle.std.proofs.Common.{ℕ, List, Some, None, ◌∙◌, ap, sym, subst, map}
+use Rattle.std.proofs.Common.{ℕ, List, [], Some, None, ◌∙◌, ap, sym, subst, map}
 use Rattle.clip_extract.specs.Keys.{Front, key_of}
 use Rattle.clip_terms.specs.Terms.{number_of}
 use Rattle.clip_terms.specs.FieldTerms.{FieldTermsValue}
-use Rattle.clip_terms.specs.Steps.Leads.{IsPlaceOf}
-use Rattle.clip_terms.proofs.Headings.{placed_number, no_number}
+use Rattle.clip_terms.specs.Steps.Leads.{heading, IsPlaceOf}
+use Rattle.clip_terms.proofs.Headings.{texts_rise, placed_number, no_number}
 use Rattle.clip_terms.proofs.field_terms.FieldTerms.front.Goals as goal
+
+pub place_of-requires-clause-rise : goal.place_of-requires-clause-rise
+place_of-requires-clause-rise c =
+    let t = c.self.inside in
+    texts_rise (map key_of t.keys.now) (heading (Front t.field.now [])) t.fronts.start t.fronts.end
+    c.self.invariant.strict c.self.invariant.fronts
 
 pub returns-in-Some : goal.returns-in-Some
 returns-in-Some c =

@@ -1,13 +1,10 @@
-use Rattle.std.proofs.Common.{List, ℕ, length, sym, ap, ◌∙◌, subst, map, arith}
+use Rattle.std.proofs.Common.{List, sym, ap, ◌∙◌, subst, map, arith}
 use Rattle.std.specs.List.{All}
 use Rattle.std.specs.List.Sorted.{IsStrictlySortedBy}
 use Rattle.clip_extract.specs.Keys.{key_of, key_cmp}
 use Rattle.clip_extract.specs.declared.key.Key.{Key}
-use Rattle.clip_terms.specs.Steps.LeadChains.{AreChained}
 use Rattle.clip_terms.specs.Steps.Leads.{AreLeads, AreShortLengths}
 use Rattle.clip_terms.specs.Steps.Parts.{IsFieldPart}
-use Rattle.std.proofs.lemmas.List.{length-map}
-use Rattle.clip_terms.proofs.LeadsOfTerms.{leads_long}
 use Rattle.clip_terms.proofs.Numbers.{in_order_rises}
 use Rattle.clip_terms.proofs.terms.Terms.of.Goals as goal
 
@@ -15,17 +12,6 @@ pub parts_of-requires : goal.parts_of-requires
 parts_of-requires c =
     subst (IsStrictlySortedBy key_cmp) (sym (ap (λ (keys : List Key). map key_of keys) c.deref-3.ensures.value
     ∙ c.in_ok-keys.ensures)) (in_order_rises (map key_of c.args.keys.items))
-
-pub of-requires : goal.of-requires
-of-requires c =
-    omega (
-      arith,
-      c.if-len-gt-MOST_TERMS.false,
-      leads_long (map key_of c.deref.result.now) c.in_ok-leads.leads.items c.in_ok-leads.ensures,
-      length-map c.deref.result.now key_of,
-      ap (λ (keys : List Key). length keys) c.deref.ensures.value,
-      ap (λ (leads : List ℕ). length leads) c.deref-4.ensures.value,
-    )
 
 pub invariant_of-result : goal.invariant_of-result
 invariant_of-result c = (
@@ -37,5 +23,4 @@ invariant_of-result c = (
       c.in_ok-lengths.ensures,
   subst (λ (keys : List Key). All (IsFieldPart (map key_of keys)) c.in_ok-parts.parts.items) c.deref-3.ensures.value
       c.in_ok-parts.ensures,
-  subst (λ (leads : List ℕ). AreChained leads c.in_ok-chains.chains) c.deref-4.ensures.value c.in_ok-chains.ensures,
 )

@@ -1,9 +1,16 @@
-use Rattle.std.proofs.Common.{◌∙◌, ap, sym, map}
+use Rattle.std.proofs.Common.{◌∙◌, ap, sym, map, []}
 use Rattle.clip_extract.specs.Keys.{Word, key_of}
 use Rattle.clip_terms.specs.Terms.{number_of}
 use Rattle.clip_terms.specs.FieldTerms.{FieldTermsValue}
-use Rattle.clip_terms.proofs.Headings.{placed_number, no_number}
-use Rattle.clip_terms.proofs.field_terms.FieldTerms.sought_word.Goals as goal
+use Rattle.clip_terms.specs.Steps.Leads.{heading}
+use Rattle.clip_terms.proofs.Headings.{texts_rise, placed_number, no_number}
+use Rattle.clip_terms.proofs.field_terms.FieldTerms.word_near.Goals as goal
+
+pub place_of-requires-clause-rise : goal.place_of-requires-clause-rise
+place_of-requires-clause-rise c =
+    let t = c.self.inside in
+    texts_rise (map key_of t.keys.now) (heading (Word t.field.now [])) t.words.start t.words.end
+    c.self.invariant.strict c.self.invariant.words
 
 pub returns-in-Some : goal.returns-in-Some
 returns-in-Some c =
