@@ -2,12 +2,10 @@
 
 from __future__ import annotations
 
-from collections import defaultdict
 from dataclasses import dataclass
-from functools import cache, partial
-from itertools import islice, product
+from functools import partial
+from itertools import islice
 from random import Random
-from string import ascii_lowercase
 from typing import Callable, Iterable, Iterator
 
 from workload import line_of, register_lines
@@ -194,25 +192,8 @@ def repeated(text: str) -> Iterator[str]:
     yield text * (900_000 // len(text.encode()))
 
 
-# By which a word's first eight bytes are hashed, and how much of it the largest table of these cases looks at
-# (`slot_of` of crates/clip_terms/src/lead_chains.rt).
-ODD_FACTOR, SLOTS = 0x9E37_79B9_7F4A_7C15, 1 << 17
-
-
-@cache
-def in_one_slot() -> list[str]:
-    """100,000 words of eight letters that have one hash: of each, that of its halves cancel out."""
-    halves = ["".join(letters) for letters in product(ascii_lowercase, repeat=4)]
-    numbers = {half: int.from_bytes(half.encode(), "big") * ODD_FACTOR for half in halves}
-    ends: dict[int, list[str]] = defaultdict(list)
-    for half in halves:
-        ends[(numbers[half] >> 32) % SLOTS].append(half)
-    return list(islice((half + end for half in halves for end in ends[-numbers[half] % SLOTS]), 100_000))
-
-
 TEA: Queries = lambda: ["tea"]
 TEXTS = [
-    case("100,000 words of one hash, an article of them", in_one_slot, lambda: [" ".join(in_one_slot())]),
     case("100,000 words of one lead, an article of 50,000 of them", partial(numbered, "abcdefgh{}", 100_000),
          lambda: [" ".join(numbered("abcdefgh{}", 50_000))]),
     case("an article of one word of 1,000,000 bytes", lambda: ["tea", "xx*", "[a TO xy]"], lambda: ["x" * 1_000_000]),
