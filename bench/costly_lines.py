@@ -250,7 +250,7 @@ HITS = [
     case("hits of 100 ranges, an article of 100,000 words", lambda: ["[* TO *]"] * 100, lambda: ["a " * 100_000],
          grown=100 * MEGABYTE, hits=True),
     case("hits of 8 queries of 4,000 words of one lead, an article of 60,000", lambda: [LEAD] * 8,
-         lambda: [" ".join(numbered("abcdefgh{}", 60_000))], hits=True),
+         lambda: [" ".join(numbered("abcdefgh{}", 60_000))], 1.0, hits=True),
     case("hits of a phrase of 8,000 equal words, an article of 128,000", lambda: ['"' + "a " * 8_000 + '"'],
          lambda: ["a " * 128_000], hits=True),
     case("hits of 1,000 queries at the end of 100,000 words", lambda: ["zz"] * 1_000,

@@ -94,8 +94,9 @@ impl<N: DeskName, I: Index, L: UpdateListener> Desk<N, I, L> {
         }
     }
 
-    /// Takes merge turns until there is nothing to merge, or a merge is stale or refused.
-    fn merge_all<R: Wait>(&self, rt: &R) {
+    /// Takes merge turns until there is nothing to merge, or a merge is stale or is refused memory; then a later call
+    /// may merge what is left. It waits as `merge_once` does, and costs that for each turn.
+    pub fn merge_all<R: Wait>(&self, rt: &R) {
         for _ in rt.forever() {
             let Ok(MergeTurn::Installed) = self.merge_once(rt) else {
                 return;

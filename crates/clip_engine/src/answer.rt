@@ -1,5 +1,5 @@
 //! A line answered.
-ghost use Rattle.std.specs.Prelude.{◌≡◌, map, IfOk, OnOk};
+ghost use Rattle.std.specs.Prelude.{◌≡◌, false, map, IfOk, OnOk};
 ghost use Rattle.std.specs.List.{All};
 ghost use Rattle.clip_match.specs.Alerts.{alerts_due};
 ghost use Rattle.clip_protocol.specs.Found.{found_value};
@@ -13,7 +13,7 @@ ghost use Rattle.clip_run.specs.Unpurged.{GoesOnUnpurged};
 ghost use Rattle.clip_engine.specs.Engine.{Answers, house};
 
 use crate::house::House;
-use clip_front::{Books, Settings, Step, deliver_found, take_line};
+use clip_front::{Books, Settings, Step, deliver, take_line};
 use clip_listen::Audience;
 use clip_match::{View, entries_due};
 use clip_meaning::Article;
@@ -42,6 +42,17 @@ fn found_of_each(
     Ok(found)
 }
 
+/// The settings of an engine whose replies have this form: no row is kept, and no worker matches.
+pub(crate) fn settings_of(form: Form) -> Settings
+    ensures { result ≡ record { form = form; keeps_rows = false; workers = 0 } }
+{
+    Settings {
+        form,
+        keeps_rows: false,
+        workers: 0,
+    }
+}
+
 /// The text of the reply to the line of this number, which matches these articles.
 fn match_reply(
     alloc: Global,
@@ -54,14 +65,10 @@ fn match_reply(
     requires { ⟦<House as Audience>⟧.hearers listeners.old ≡ house }
     ensures { IfOk result (λ text. text.items ≡ reply form house number view.now.history (matching articles.now)) }
 {
-    let settings = Settings {
-        form,
-        keeps_rows: false,
-        workers: 0,
-    };
+    let settings = settings_of(form);
     let found = found_of_each(alloc, view, settings, articles)?;
     let mut books = Books::new(alloc, settings);
-    deliver_found(alloc, listeners, &mut books, number, &found)
+    deliver(alloc, listeners, &mut books, number, &found)
 }
 
 /// Answers the line of this number: the text of its reply, or nothing for a blank line.

@@ -11,12 +11,13 @@ ghost use Rattle.clip_protocol.specs.Steps.Views.{listing_view};
 ghost use Rattle.clip_protocol.specs.declared.refusal.Unread.TheVariants as unread;
 ghost use Rattle.clip_standing.specs.Command.{command_of};
 ghost use Rattle.clip_engine.specs.Asked.{IsAsked};
-ghost use Rattle.clip_engine.specs.Engine.{Accepts, Registers, Replies, fresh, has_feed, history_of, purged_engine};
+ghost use Rattle.clip_engine.specs.Engine.{Accepts, Registers, Replies, form_of, fresh, has_feed, history_of};
+ghost use Rattle.clip_engine.specs.Engine.{purged_engine};
 ghost use Rattle.clip_engine.specs.Found.{ids_bytes};
 ghost use Rattle.clip_engine.specs.Many.{RegistersMany};
 ghost use Rattle.clip_engine.specs.Texts.{IsFoundAt};
 
-use crate::answer::answer;
+use crate::answer::{answer, settings_of};
 use crate::found::bytes_of_due;
 use crate::house::House;
 use crate::ids::bytes_of_ids;
@@ -26,7 +27,7 @@ use clip_match::{DueEntries, HitsFound, View, entries_due};
 use clip_meaning::{Article, ArticleFault};
 use clip_model::MOST_LISTED;
 use clip_protocol::{ListFault, Listing, Refusal, Unread};
-use clip_run::OwnRegistrar;
+use clip_run::{OwnRegistrar, hits_found};
 use clip_standing::{Applied, Command, Refused};
 use clip_stream::Form;
 use clip_words::{NoMemory, WordPool, is_id};
@@ -84,6 +85,13 @@ fn read_article(
     }
 }
 
+/// The form of replies, which show hits or don't.
+fn form_of(hits: bool) -> Form
+    ensures { result ≡ form_of hits }
+{
+    if hits { Form::WithHits } else { Form::Plain }
+}
+
 /// What is due to an article at a view, and how many queries were tried.
 fn due_at<'a>(
     alloc: Global,
@@ -135,11 +143,7 @@ impl Engine {
             return Err(LineFault::TooMany);
         }
         let number = self.lines + 1;
-        let form = if self.hits {
-            Form::WithHits
-        } else {
-            Form::Plain
-        };
+        let form = form_of(self.hits);
         let Ok(before) = self.owned.copy() else {
             return Err(LineFault::NoMemory);
         };
@@ -346,11 +350,7 @@ impl Engine {
     {
         let article = read_article(self.alloc, &mut self.pool, id, fields)?;
         let view = self.owned.registrar.view()?;
-        let hits = if self.hits {
-            HitsFound::AtOnce
-        } else {
-            HitsFound::WhenAsked
-        };
+        let hits = hits_found(settings_of(form_of(self.hits)));
         let due = due_at(self.alloc, &view, &article, hits)?;
         Ok(bytes_of_due(self.alloc, &due, self.hits)?)
     }

@@ -12,7 +12,7 @@ use Rattle.clip_protocol.specs.Steps.Flowing.{item_text}
 use Rattle.clip_protocol.specs.Steps.Putting.{Stand}
 use Rattle.clip_protocol.specs.Steps.Views.{alerts_by_id}
 use Rattle.clip_front.specs.Outcome.{kept_rows, rows_of_article}
-use Rattle.clip_front.specs.declared.deliver.MatchReply.{MatchReply}
+use Rattle.clip_front.specs.declared.delivery.MatchReply.{MatchReply}
 use Rattle.clip_front.specs.declared.settings.Settings.{Settings}
 
 -- what holds between two articles of a line: what the listeners have heard, the rows, where they are kept, the

@@ -3,7 +3,7 @@
 
 mod answer;
 mod books;
-mod deliver;
+mod delivery;
 mod kept;
 mod registry;
 mod server;
@@ -12,7 +12,7 @@ mod settings;
 
 pub use answer::{Step, take_line, take_listing};
 pub use books::Books;
-pub use deliver::{MatchReply, deliver_found};
+pub use delivery::{MatchReply, deliver};
 pub use kept::{one_beginning, take_kept};
 pub use registry::Registry;
 pub use server::{Server, serve};

@@ -16,11 +16,11 @@ ghost use Rattle.clip_match.specs.Steps.Positions.{entries_at, has_listener, hol
 use crate::held::{Held, HitPlaces, HitsFound};
 use crate::registry::View;
 use clip_extract::covering_law;
-use clip_meaning::{Article, Hit};
+use clip_meaning::{Article, FieldFlags, Hit};
 use clip_plan::Tallies;
 use clip_segment::{PositionsRead, SegmentReading, SegmentSpots};
 use clip_standing::Entry;
-use clip_terms::{Asking, FieldFlags};
+use clip_terms::Asking;
 use clip_words::NoMemory;
 use std::alloc::Global;
 

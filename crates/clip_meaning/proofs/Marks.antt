@@ -1,7 +1,7 @@
 -- Flags of a field's words: what raising them at postings makes of them, and the hits that are read off them.
 use Rattle.std.proofs.Common.{◌≡◌, ℕ, zero, suc, ◌+◌, ◌<◌, ◌≤◌, Bool, true, false, cond, ◌&&◌, ◌||◌, List, [], ◌∷◌}
 use Rattle.std.proofs.Common.{◌++◌, length, drop, map, filter, get_or, nat_eq, nat_le, nat_lt, bytes_eq, IsPermutation}
-use Rattle.std.proofs.Common.{refl, sym, ap, ◌∙◌, arith, append-nil}
+use Rattle.std.proofs.Common.{refl, sym, ap, ◌∙◌, arith, append-nil, Some, None}
 use Rattle.std.specs.List.{list_any, flat_map, starts_with}
 use Rattle.std.specs.Cmp.Lexicographic.{nat_list_eq_equiv}
 use Rattle.std.proofs.lemmas.Bool.{eq-eqb, ne_eqb, leb-true, le-ltb}
@@ -13,7 +13,7 @@ use Rattle.clip_grammar.specs.Tree.{clauses_of, tree_of}
 use Rattle.clip_meaning.specs.Hits.{HitValue, asks, covers, is_named, is_named_by, is_within}
 use Rattle.clip_meaning.specs.Index.{numbered}
 use Rattle.memchr.specs.Find.{places_from}
-use Rattle.clip_meaning.specs.Steps.Marks.{hit_at, is_up, raised}
+use Rattle.clip_meaning.specs.Steps.Marks.{hit_at, is_up, is_within_run, raised, start_at}
 use Rattle.clip_meaning.proofs.Numbered.{any_filter, rest_dropped}
 use Rattle.clip_meaning.proofs.Postings.{Place}
 
@@ -133,6 +133,16 @@ empty_covers all k (p ∷ ps) =
     none : (a : Bool) → ((a && false) || false) ≡ false
     none true = refl
     none false = refl
+
+-- a phrase covers a position from where it starts, if it begins at the posting
+pub covers_from_start : (words phrase : List (List ℕ)) (k : ℕ) (p : Place)
+    → is_within_run (start_at words phrase p) (length phrase) k ≡ covers words phrase k p.1
+covers_from_start words phrase k p = by_test (starts_with bytes_eq (drop p.1 words) phrase)
+  where
+    by_test : (b : Bool) → is_within_run (cond b (Some p.1) None) (length phrase) k
+        ≡ (b && is_within p.1 (length phrase) k)
+    by_test true = refl
+    by_test false = refl
 
 -- ---- groups
 

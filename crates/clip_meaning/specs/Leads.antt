@@ -1,5 +1,5 @@
 -- The first bytes of a text as one number, by which most texts are told apart.
-use Rattle.std.specs.Prelude.{◌≡◌, ℕ, ◌+◌, ◌*◌, ◌<◌, ◌==◌, Bool, List, [], ◌∷◌, zero, suc}
+use Rattle.std.specs.Prelude.{◌≡◌, ℕ, ◌+◌, ◌*◌, ◌<◌, List, [], ◌∷◌, zero, suc}
 use Rattle.std.specs.List.{AllByRecursion}
 
 -- each number is a byte
@@ -20,7 +20,3 @@ lead_of text = lead_after 0 8 text
 pub record IsLead (text : List ℕ) (lead : ℕ) : Type 0 where
   pub bytes : AreBytes text
   pub number : lead ≡ lead_of text
-
--- the posting is of a word of the lead
-abbrev pub has_lead : (lead : ℕ) → List ℕ × ℕ → Bool
-has_lead lead posting = lead_of posting.0 == lead

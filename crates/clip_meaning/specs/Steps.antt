@@ -1,4 +1,5 @@
--- What the proofs of this crate go through; no public clause cites it.
+-- What the proofs of this crate go through; of these public clauses cite Marks alone.
+pub mod Flags
 pub mod Marks
 pub mod Searches
 pub mod Tally

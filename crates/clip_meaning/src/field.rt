@@ -1,5 +1,5 @@
 //! The words of one field of an article.
-ghost use Rattle.std.specs.Prelude.{◌≡◌, ℕ, Bool, ◌&&◌, List, [], map, drop, length, get_or, IfOk, IsPermutation};
+ghost use Rattle.std.specs.Prelude.{◌≡◌, [], map, drop, length, get_or, IfOk, IsPermutation};
 ghost use Rattle.std.specs.Arc.{arc_str_bytes};
 ghost use Rattle.std.specs.List.{All, list_any, starts_with};
 ghost use Rattle.std.specs.List.Sorted.{IsSorted, IsSortedByKey};
@@ -8,14 +8,13 @@ ghost use Rattle.clip_words.specs.Order.{bytes_cmp};
 ghost use Rattle.clip_words.specs.Words.{words_of};
 ghost use Rattle.clip_grammar.specs.Tree.{end_of};
 ghost use Rattle.clip_meaning.specs.Index.{numbered, posting_cmp};
-ghost use Rattle.clip_meaning.specs.Leads.{has_lead};
 ghost use Rattle.clip_meaning.specs.Steps.Searches.{stands_at};
 ghost use Rattle.clip_meaning.specs.Meaning.{begins_with, has_phrase, is_between};
 ghost use Rattle.clip_meaning.specs.Hits.{covers};
-ghost use Rattle.clip_meaning.specs.Steps.Marks.{AreRaised};
+ghost use Rattle.clip_meaning.specs.Steps.Marks.{AreRaised, start_at};
 
+use crate::flags::FieldFlags;
 use crate::index::{Posting, WordIndex};
-use crate::marking::{mark_all, mark_run};
 use clip_grammar::query::Bound;
 use clip_words::{NoMemory, WordPool, shared_words};
 use std::alloc::Global;
@@ -107,16 +106,6 @@ impl Field {
         stands_at_any(&self.words, self.index.occurrences(first), phrase)
     }
 
-    /// The postings of the words of a lead: those of all words that have it as the number of their first eight bytes.
-    /// Takes no memory. Cost: about the logarithm of the number of words, and a step for each that is returned; no text
-    /// is looked at.
-    pub fn of_lead(&self, lead: u64) -> &[Posting]
-        ensures { (test : List ℕ × ℕ → Bool) → list_any test result.now
-            ≡ list_any (λ p. has_lead lead p && test p) (numbered 0 self.now.1) }
-    {
-        self.index.of_lead(lead)
-    }
-
     /// Whether a word begins with a prefix, as in Lucene's PrefixQuery. Takes no memory. Compares about the logarithm
     /// of the number of words.
     pub fn has_front(&self, front: &str) -> bool
@@ -136,20 +125,20 @@ impl Field {
 
     /// Raises the flags of a word's positions. Compares about the logarithm of the number of words, and takes a step
     /// for each position.
-    pub(crate) fn mark_word(&self, word: &str, flags: &mut Vec<u8>)
-        requires { length flags.old.items ≡ length self.now.1 }
-        ensures long { length flags.new.items ≡ length flags.old.items }
-        ensures raised { AreRaised flags.old.items flags.new.items
+    pub(crate) fn mark_word(&self, word: &str, flags: &mut FieldFlags)
+        requires { length flags.old ≡ length self.now.1 }
+        ensures long { length flags.new ≡ length flags.old }
+        ensures raised { AreRaised flags.old flags.new
             (λ k. bytes_eq (get_or self.now.1 k []) word.now) }
     {
-        mark_all(flags, self.index.occurrences(word));
+        flags.raise_all(self.index.occurrences(word));
     }
 
     /// Raises the flags of the positions that a phrase covers. Looks only where the phrase's first word occurs: at
     /// worst these places times the words of the phrase.
-    pub(crate) fn mark_phrase(&self, phrase: &[ArcStr], flags: &mut Vec<u8>)
-        ensures long { length flags.new.items ≡ length flags.old.items }
-        ensures raised { AreRaised flags.old.items flags.new.items
+    pub(crate) fn mark_phrase(&self, phrase: &[ArcStr], flags: &mut FieldFlags)
+        ensures long { length flags.new ≡ length flags.old }
+        ensures raised { AreRaised flags.old flags.new
             (λ k. list_any (λ start. covers self.now.1 (map arc_str_bytes phrase.now) k start.1)
             (numbered 0 self.now.1)) }
     {
@@ -160,24 +149,24 @@ impl Field {
 
     /// Raises the flags of the words that begin with a prefix. Compares about the logarithm of the number of words, and
     /// takes a step for each such word.
-    pub(crate) fn mark_front(&self, front: &str, flags: &mut Vec<u8>)
-        requires { length flags.old.items ≡ length self.now.1 }
-        ensures long { length flags.new.items ≡ length flags.old.items }
-        ensures raised { AreRaised flags.old.items flags.new.items
+    pub(crate) fn mark_front(&self, front: &str, flags: &mut FieldFlags)
+        requires { length flags.old ≡ length self.now.1 }
+        ensures long { length flags.new ≡ length flags.old }
+        ensures raised { AreRaised flags.old flags.new
             (λ k. begins_with front.now (get_or self.now.1 k [])) }
     {
-        mark_all(flags, self.index.with_front(front));
+        flags.raise_all(self.index.with_front(front));
     }
 
     /// Raises the flags of the words between the bounds. Compares about the logarithm of the number of words, and takes
     /// a step for each such word.
-    pub(crate) fn mark_between(&self, low: &Bound, high: &Bound, flags: &mut Vec<u8>)
-        requires { length flags.old.items ≡ length self.now.1 }
-        ensures long { length flags.new.items ≡ length flags.old.items }
-        ensures raised { AreRaised flags.old.items flags.new.items
+    pub(crate) fn mark_between(&self, low: &Bound, high: &Bound, flags: &mut FieldFlags)
+        requires { length flags.old ≡ length self.now.1 }
+        ensures long { length flags.new ≡ length flags.old }
+        ensures raised { AreRaised flags.old flags.new
             (λ k. is_between (end_of low.now) (end_of high.now) (get_or self.now.1 k [])) }
     {
-        mark_all(flags, self.index.between(low, high));
+        flags.raise_all(self.index.between(low, high));
     }
 }
 
@@ -212,16 +201,25 @@ fn stands_at_any(words: &[ArcStr], postings: &[Posting], phrase: &[ArcStr]) -> b
 }
 
 /// Raises the flags of the words of a phrase at those of the postings where it begins.
-fn mark_runs(words: &[ArcStr], postings: &[Posting], phrase: &[ArcStr], flags: &mut Vec<u8>)
-    ensures long { length flags.new.items ≡ length flags.old.items }
-    ensures raised { AreRaised flags.old.items flags.new.items
+fn mark_runs(words: &[ArcStr], postings: &[Posting], phrase: &[ArcStr], flags: &mut FieldFlags)
+    ensures long { length flags.new ≡ length flags.old }
+    ensures raised { AreRaised flags.old flags.new
         (λ k. list_any (λ p. covers (map arc_str_bytes words.now) (map arc_str_bytes phrase.now) k p.1) postings.now) }
 {
-    for posting in postings {
-        if stands_at(words, phrase, posting) {
-            mark_run(flags, posting.position(), phrase.len());
-        }
-    }
+    flags.raise_runs(
+        postings,
+        phrase.len(),
+        |posting: &Posting| -> Option<usize>
+            ensures { result
+                ≡ start_at (map arc_str_bytes words.entry.now) (map arc_str_bytes phrase.entry.now) posting.now }
+        {
+            if stands_at(words, phrase, posting) {
+                Some(posting.position())
+            } else {
+                None
+            }
+        },
+    );
 }
 
 /// Whether the words begin with those of a phrase. Takes no memory. Cost: a comparison for each word of the phrase.

@@ -1,5 +1,5 @@
 //! Where in an article the leaves of a query stand.
-ghost use Rattle.std.specs.Prelude.{◌≡◌, ◌&&◌, ◌++◌, ◌∷◌, [], IfOk, OnOk, map, length, get_or};
+ghost use Rattle.std.specs.Prelude.{◌≡◌, ◌&&◌, ◌++◌, [], IfOk, OnOk, map, length, get_or};
 ghost use Rattle.std.specs.Arc.{arc_str_bytes};
 ghost use Rattle.std.specs.List.{list_any};
 ghost use Rattle.std.specs.Str.{bytes_eq};
@@ -7,14 +7,13 @@ ghost use Rattle.clip_grammar.specs.Tree.{tree_of, end_of};
 ghost use Rattle.clip_meaning.specs.Hits.{asks, covers, hit_value, hits, hits_in, is_named};
 ghost use Rattle.clip_meaning.specs.Index.{numbered};
 ghost use Rattle.clip_meaning.specs.Meaning.{begins_with, is_between};
-ghost use Rattle.clip_meaning.specs.Steps.Marks.{AreRaised, raised};
+ghost use Rattle.clip_meaning.specs.Steps.Marks.{AreRaised};
 
 use crate::article::Article;
 use crate::field::Field;
-use crate::marking::{DOWN, UP};
+use crate::flags::FieldFlags;
 use clip_grammar::query::{Bound, Occur, Query};
 use clip_words::NoMemory;
-use memchr::memchr_iter;
 use std::alloc::Global;
 use std::sync::ArcStr;
 
@@ -35,10 +34,10 @@ fn is_called(field: &Field, name: &str) -> bool
 }
 
 /// Raises the flags of a word's positions, where the field has the name.
-fn mark_word(field: &Field, name: &str, word: &str, flags: &mut Vec<u8>)
-    requires { length flags.old.items ≡ length field.now.1 }
-    ensures long { length flags.new.items ≡ length flags.old.items }
-    ensures raised { AreRaised flags.old.items flags.new.items
+fn mark_word(field: &Field, name: &str, word: &str, flags: &mut FieldFlags)
+    requires { length flags.old ≡ length field.now.1 }
+    ensures long { length flags.new ≡ length flags.old }
+    ensures raised { AreRaised flags.old flags.new
         (λ k. bytes_eq name.now field.now.0 && bytes_eq (get_or field.now.1 k []) word.now) }
 {
     if is_called(field, name) {
@@ -47,9 +46,9 @@ fn mark_word(field: &Field, name: &str, word: &str, flags: &mut Vec<u8>)
 }
 
 /// Raises the flags of the positions that a phrase covers, where the field has the name.
-fn mark_phrase(field: &Field, name: &str, phrase: &[ArcStr], flags: &mut Vec<u8>)
-    ensures long { length flags.new.items ≡ length flags.old.items }
-    ensures raised { AreRaised flags.old.items flags.new.items (λ k. bytes_eq name.now field.now.0
+fn mark_phrase(field: &Field, name: &str, phrase: &[ArcStr], flags: &mut FieldFlags)
+    ensures long { length flags.new ≡ length flags.old }
+    ensures raised { AreRaised flags.old flags.new (λ k. bytes_eq name.now field.now.0
         && list_any (λ start. covers field.now.1 (map arc_str_bytes phrase.now) k start.1) (numbered 0 field.now.1)) }
 {
     if is_called(field, name) {
@@ -58,10 +57,10 @@ fn mark_phrase(field: &Field, name: &str, phrase: &[ArcStr], flags: &mut Vec<u8>
 }
 
 /// Raises the flags of the words that begin with a prefix, where the field has the name.
-fn mark_front(field: &Field, name: &str, front: &str, flags: &mut Vec<u8>)
-    requires { length flags.old.items ≡ length field.now.1 }
-    ensures long { length flags.new.items ≡ length flags.old.items }
-    ensures raised { AreRaised flags.old.items flags.new.items
+fn mark_front(field: &Field, name: &str, front: &str, flags: &mut FieldFlags)
+    requires { length flags.old ≡ length field.now.1 }
+    ensures long { length flags.new ≡ length flags.old }
+    ensures raised { AreRaised flags.old flags.new
         (λ k. bytes_eq name.now field.now.0 && begins_with front.now (get_or field.now.1 k [])) }
 {
     if is_called(field, name) {
@@ -70,10 +69,10 @@ fn mark_front(field: &Field, name: &str, front: &str, flags: &mut Vec<u8>)
 }
 
 /// Raises the flags of the words between the bounds, where the field has the name.
-fn mark_between(field: &Field, name: &str, low: &Bound, high: &Bound, flags: &mut Vec<u8>)
-    requires { length flags.old.items ≡ length field.now.1 }
-    ensures long { length flags.new.items ≡ length flags.old.items }
-    ensures raised { AreRaised flags.old.items flags.new.items (λ k. bytes_eq name.now field.now.0
+fn mark_between(field: &Field, name: &str, low: &Bound, high: &Bound, flags: &mut FieldFlags)
+    requires { length flags.old ≡ length field.now.1 }
+    ensures long { length flags.new ≡ length flags.old }
+    ensures raised { AreRaised flags.old flags.new (λ k. bytes_eq name.now field.now.0
         && is_between (end_of low.now) (end_of high.now) (get_or field.now.1 k [])) }
 {
     if is_called(field, name) {
@@ -96,10 +95,10 @@ fn asks(occur: Occur) -> bool
 ///
 /// Takes no memory. Cost: one walk through the query; a leaf costs searches among the field's words, and a step for
 /// each word that it names. Recurses as deep as groups nest.
-pub fn mark(query: &Query, field: &Field, flags: &mut Vec<u8>)
-    requires { length flags.old.items ≡ length field.now.1 }
-    ensures long { length flags.new.items ≡ length flags.old.items }
-    ensures raised { AreRaised flags.old.items flags.new.items
+pub fn mark(query: &Query, field: &Field, flags: &mut FieldFlags)
+    requires { length flags.old ≡ length field.now.1 }
+    ensures long { length flags.new ≡ length flags.old }
+    ensures raised { AreRaised flags.old flags.new
         (λ k. is_named (tree_of query.now) field.now.0 field.now.1 (get_or field.now.1 k [], k)) }
 {
     match query {
@@ -122,30 +121,6 @@ pub fn mark(query: &Query, field: &Field, flags: &mut Vec<u8>)
     }
 }
 
-/// Adds a hit.
-fn add_hit(name: &ArcStr, position: usize, found: &mut Vec<Hit>) -> Result<(), NoMemory>
-    ensures { OnOk result (map hit_value found.new.items
-        ≡ map hit_value found.old.items ++ (arc_str_bytes name.now, position) ∷ []) }
-{
-    found.push(Hit {
-        field: name.clone()?,
-        position: position as u64,
-    })?;
-    Ok(())
-}
-
-/// Adds a hit for each flag that is up, in order. `NoMemory` where an allocation failed, or where the count of the name
-/// is at its end; some hits may then have been added.
-pub fn add_raised(name: &ArcStr, flags: &[u8], found: &mut Vec<Hit>) -> Result<(), NoMemory>
-    ensures { OnOk result (map hit_value found.new.items
-        ≡ map hit_value found.old.items ++ raised (arc_str_bytes name.now) flags.now) }
-{
-    for position in memchr_iter(UP, flags) {
-        add_hit(name, position, found)?;
-    }
-    Ok(())
-}
-
 /// Adds the hits in one field.
 fn add_hits(
     alloc: Global,
@@ -156,9 +131,10 @@ fn add_hits(
     ensures { OnOk result (map hit_value found.new.items
         ≡ map hit_value found.old.items ++ hits_in (tree_of query.now) field.now) }
 {
-    let mut flags = vec![in alloc; DOWN; field.words().len()]?;
+    let mut flags = FieldFlags::new(alloc);
+    flags.restart(field.words().len())?;
     mark(query, field, &mut flags);
-    add_raised(field.name(), &flags, found)
+    flags.add_hits(field.name(), found)
 }
 
 /// Where in an article the leaves of a query stand: the positions of the words that they name, ordered by the bytes of

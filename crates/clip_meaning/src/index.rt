@@ -1,7 +1,7 @@
 //! The words of a field in byte order, each with its position.
-ghost use Rattle.std.specs.Prelude.{◌≡◌, ◌≤◌, nat_lt, length, map, filter, not, IfOk, IsPermutation};
+ghost use Rattle.std.specs.Prelude.{◌≡◌, map, filter, not, IfOk, IsPermutation};
 ghost use Rattle.std.specs.Arc.{arc_str_bytes};
-ghost use Rattle.std.specs.List.{All, list_any, prefix_len};
+ghost use Rattle.std.specs.List.{list_any};
 ghost use Rattle.std.specs.List.Sorted.{IsSorted, IsSortedByKey};
 ghost use Rattle.std.specs.Str.{bytes_eq};
 ghost use Rattle.std.specs.Ordering.{is_gt, is_lt};
@@ -9,7 +9,7 @@ ghost use Rattle.clip_words.specs.Order.{bytes_cmp};
 ghost use Rattle.clip_grammar.specs.Tokens.{End};
 ghost use Rattle.clip_grammar.specs.Tree.{end_of};
 ghost use Rattle.clip_meaning.specs.Index.{numbered, posting_cmp};
-ghost use Rattle.clip_meaning.specs.Leads.{AreBytes, IsLead, has_lead, lead_of};
+ghost use Rattle.clip_meaning.specs.Leads.{IsLead};
 ghost use Rattle.clip_meaning.specs.Steps.Searches.{from_low};
 ghost use Rattle.clip_meaning.specs.Meaning.{below, begins_with, is_between};
 
@@ -65,13 +65,6 @@ impl Posting {
         ensures { IsLead self.now.0 result }
     {
         self.lead
-    }
-
-    /// Whether the word has a lead.
-    fn has_lead(&self, lead: u64) -> bool
-        ensures { result ≡ has_lead lead self.now }
-    {
-        self.lead == lead
     }
 }
 
@@ -140,17 +133,12 @@ impl Model for WordIndex {
 
     ghost view = { λ index. index.postings.items };
 
-    ghost use Rattle.std.specs.List.{All};
-    ghost use Rattle.clip_meaning.specs.Leads.{AreBytes};
-
-    ghost invariant = { λ index. IsSorted posting_cmp index.postings.items
-        × All (λ p. AreBytes p.0) index.postings.items };
+    ghost invariant = { λ index. IsSorted posting_cmp index.postings.items };
 }
 
 /// The words in order, each with its position.
 fn postings_of(alloc: Global, words: &[ArcStr]) -> Result<Vec<Posting>, NoMemory>
-    ensures words { IfOk result (λ postings. postings.items ≡ numbered 0 (map arc_str_bytes words.now)) }
-    ensures bytes { IfOk result (λ postings. All (λ p. AreBytes p.0) postings.items) }
+    ensures { IfOk result (λ postings. postings.items ≡ numbered 0 (map arc_str_bytes words.now)) }
 {
     let mut postings = Vec::with_capacity(alloc, words.len())?;
     for word in words {
@@ -183,23 +171,8 @@ impl WordIndex {
         ensures value { result.now ≡ self.now }
         ensures sorted { IsSortedByKey (λ p. p.0) bytes_cmp self.now }
         ensures in_order { IsSorted posting_cmp self.now }
-        ensures bytes { All (λ p. AreBytes p.0) self.now }
     {
         &self.postings
-    }
-
-    /// The postings of the words of a lead, by a binary search among the leads and a walk over those that are found.
-    pub(crate) fn of_lead(&self, lead: u64) -> &[Posting]
-        ensures { result.now ≡ filter (has_lead lead) self.now }
-    {
-        let postings = self.postings();
-        let place = postings.partition_point(
-            |posting: &Posting| -> bool
-                ensures { result ≡ nat_lt (lead_of posting.now.0) lead }
-            { posting.lead < lead },
-        );
-        let postings = postings.split_at(place).1;
-        postings.split_at(count_of_lead(postings, lead)).0
     }
 
     /// The postings of the words that are not below a word.
@@ -313,18 +286,6 @@ impl WordIndex {
             None => false,
         }
     }
-}
-
-/// How many of the first postings are of words of a lead.
-fn count_of_lead(postings: &[Posting], lead: u64) -> usize
-    ensures within { result ≤ length postings.now }
-    ensures count { result ≡ prefix_len (has_lead lead) postings.now }
-{
-    let mut count = 0;
-    while count < postings.len() && postings[count].has_lead(lead) {
-        count += 1;
-    }
-    count
 }
 
 /// Whether a word is not above the high end of a range.

@@ -3,6 +3,7 @@ use Rattle.std.proofs.Common.{◌≡◌, ℕ, zero, suc, ◌+◌, ◌-◌, ◌<�
 use Rattle.std.proofs.Common.{[], ◌∷◌, ◌++◌, map, filter, length, take, drop, get_or, bytes_eq, refl, sym, ap, ◌∙◌}
 use Rattle.std.proofs.Common.{arith, ne_eqb, append-nil}
 use Rattle.std.specs.Prelude.{Result, Ok, Err, OnOk}
+use Rattle.std.specs.Cmp.{eq_by_cmp_equiv}
 use Rattle.std.specs.List.{list_any, starts_with, flat_map}
 use Rattle.std.proofs.lemmas.List.Concat.{flat_map-append}
 use Rattle.std.proofs.lemmas.List.{length-map, drop-map, drop_more, drop_all, get_or-map, take_more}
@@ -14,8 +15,9 @@ use Rattle.clip_grammar.specs.declared.query.Occur.TheVariants.{Must, Should}
 use Rattle.clip_meaning.specs.Hits.{asks, covers, hits_in, is_named, is_named_by, is_within}
 use Rattle.clip_meaning.specs.Index.{numbered}
 use Rattle.clip_extract.specs.Keys.{KeyValue, Word, is_same}
-use Rattle.clip_terms.specs.Spots.{FieldValue, covers_from, is_covered}
-use Rattle.clip_terms.proofs.Spotted.{at_word, none_covered}
+use Rattle.clip_extract.proofs.Order.{key_cmp_total}
+use Rattle.clip_terms.specs.Spots.{FieldValue, covers_from, is_covered, is_word_of}
+use Rattle.clip_terms.proofs.Spotted.{at_word, none_covered, not_its_word}
 use Rattle.clip_plan.specs.Plan.{Mark, Leaf, Open, Close, clause_marks, group_marks, plan_of}
 use Rattle.clip_plan.specs.declared.step.Step.{Step}
 use Rattle.clip_plan.specs.Steps.Judging.{meant}
@@ -35,6 +37,26 @@ or_assoc false b c = refl
 none_of : {A : Type 0} (t : A → Bool) (xs : List A) → ((x : A) → t x ≡ false) → list_any t xs ≡ false
 none_of t [] fails = refl
 none_of t (x ∷ xs) fails = (λ i. fails x i || none_of t xs fails i)
+
+-- ---- a run whose first key is of no word in fields of a name
+
+-- the words of such a field begin with no such run
+other_begins : (name : List ℕ) (key : KeyValue) (run : List KeyValue) (words : List (List ℕ))
+    → is_word_of name key ≡ false → starts_with is_same (map (Word name) words) (key ∷ run) ≡ false
+other_begins name key run [] other = refl
+other_begins name key run (w ∷ words) other =
+    ap (λ b. b && starts_with is_same (map (Word name) words) run)
+    ((eq_by_cmp_equiv key_cmp_total).symm key (Word name w) ∙ not_its_word name key other w)
+
+-- it covers no position of one
+pub other_covered : (field : FieldValue) (key : KeyValue) (run : List KeyValue) (k : ℕ)
+    → is_word_of field.0 key ≡ false → is_covered field (key ∷ run) k ≡ false
+other_covered field key run k other =
+    none_of (λ (p : List ℕ × ℕ). covers_from field (key ∷ run) k p.1) (numbered 0 field.1) (λ p.
+    ap (λ xs. starts_with is_same xs (key ∷ run) && is_within p.1 (length (key ∷ run)) k)
+    (drop-map (Word field.0) p.1 field.1)
+    ∙ ap (λ b. b && is_within p.1 (length (key ∷ run)) k)
+    (other_begins field.0 key run (drop p.1 field.1) other))
 
 -- ---- a phrase
 

@@ -9,8 +9,8 @@ ghost use Rattle.clip_terms.specs.Spots.{spots_among};
 ghost use Rattle.clip_plan.specs.Plan.{decoded, plan_of};
 
 use crate::plans::Plans;
-use clip_meaning::Hit;
-use clip_terms::{FieldFlags, FieldSpots};
+use clip_meaning::{FieldFlags, Hit};
+use clip_terms::FieldSpots;
 use clip_words::NoMemory;
 
 /// Adds the hits in one field of the query of the plan at a place. `flags` is room for a flag of each of its words, of

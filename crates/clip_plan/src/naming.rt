@@ -11,9 +11,9 @@ ghost use Rattle.clip_plan.specs.Steps.Naming.{excluded_before, mark_asks, mark_
 use crate::plans::Plans;
 use crate::step::Step;
 use clip_grammar::query::{Occur, Query};
-use clip_meaning::Field;
+use clip_meaning::{Field, FieldFlags, mark};
 use clip_pieces::PackedLists;
-use clip_terms::{FieldFlags, FieldSpots};
+use clip_terms::FieldSpots;
 
 /// Whether a clause asks for what its child names.
 fn asks(occur: Occur) -> bool
@@ -93,7 +93,7 @@ fn mark_query(queries: &[Query], place: usize, field: &Field, flags: &mut FieldF
         (get_or field.now.1 k [], k)) }
 {
     if let Some(query) = queries.get(place) {
-        flags.raise_named(query, field);
+        mark(query, field, flags);
     }
 }
 

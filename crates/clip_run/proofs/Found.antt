@@ -15,7 +15,7 @@ use Rattle.clip_protocol.specs.Reply.{alerts_data, alerts_shown, alerts_of_all, 
 use Rattle.clip_protocol.specs.Steps.Flowing.{closing, items_begun, opening}
 use Rattle.clip_protocol.specs.Steps.Views.{alerts_by_id}
 use Rattle.clip_front.specs.declared.books.Books.{Books}
-use Rattle.clip_front.specs.declared.deliver.MatchReply.{MatchReply}
+use Rattle.clip_front.specs.declared.delivery.MatchReply.{MatchReply}
 use Rattle.clip_front.specs.Outcome.{given, kept_rows, rows_of_article}
 use Rattle.clip_front.specs.Steps.Answers.{GoesOn, held}
 use Rattle.clip_front.specs.Steps.Found.{told_in, rows_in, found_text, found_outcome}

@@ -5,10 +5,10 @@ ghost use Rattle.clip_run.specs.Alone.{history_alone};
 ghost use Rattle.clip_run.specs.Seated.{IsOnly};
 
 use crate::desk::{Desk, Seat};
+use crate::merging::{Merging, merged_after};
 use clip_desk::{DeskName, Nudge, Refused};
 use clip_front::Registry;
 use clip_match::View;
-use clip_registry::MergeTurn;
 use clip_standing::{Applied, Command};
 use clip_words::NoMemory;
 use crossbeam_channel::Sender;
@@ -82,31 +82,28 @@ impl<'r, 'd, R: Wait, N: DeskName> Caller<'r, 'd, R, N> {
         self.seat.look()
     }
 
-    /// Takes merge turns until there is nothing to merge, or one is refused memory.
-    fn merge_all(&self) {
-        for _ in self.rt.forever() {
-            let Ok(MergeTurn::Installed) = self.desk.merge_once(self.rt) else {
-                return;
-            };
-        }
-    }
-
-    /// Has segments merged, where there are some to merge. A nudge that is refused memory is dropped.
-    fn have_merged(&self) {
-        match &self.nudges {
-            Some(nudges) => {
-                let _ = nudges.send(self.rt, Nudge::Merge);
-            }
-            None => self.merge_all(),
-        }
-    }
-
     /// Tells the merging thread to stop, and closes the channel to it.
     pub fn dismiss(&mut self)
         ensures { self.new ≡ self.old }
     {
         if let Some(nudges) = self.nudges.take() {
             let _ = nudges.send(self.rt, Nudge::Stop);
+        }
+    }
+}
+
+impl<'r, 'd, R: Wait, N: DeskName> Merging for Caller<'r, 'd, R, N> {
+    ghost use Rattle.std.specs.Prelude.{◌≡◌};
+
+    ghost merges = { λ old new. new ≡ old };
+
+    /// A nudge that is refused memory is dropped.
+    fn have_merged(&mut self) {
+        match &self.nudges {
+            Some(nudges) => {
+                let _ = nudges.send(self.rt, Nudge::Merge);
+            }
+            None => self.desk.merge_all(self.rt),
         }
     }
 }
@@ -122,10 +119,7 @@ impl<'r, 'd, R: Wait, N: DeskName> Registry for Caller<'r, 'd, R, N> {
 
     fn accept(&mut self, command: Command) -> Result<Option<Applied>, NoMemory> {
         match self.desk.commit(self.rt, &mut self.seat, command) {
-            Ok(receipt) => {
-                self.have_merged();
-                Ok(Some(receipt.applied()))
-            }
+            Ok(receipt) => Ok(Some(merged_after(receipt.applied(), self))),
             Err((_, Refused::Full)) => Ok(None),
             Err((_, Refused::NoMemory)) => Err(NoMemory),
             Err((_, Refused::Foreign)) => unreachable!(),

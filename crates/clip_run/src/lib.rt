@@ -11,6 +11,7 @@ mod finding;
 mod giver;
 mod group;
 mod helpers;
+mod merging;
 mod own_registrar;
 mod serving;
 mod session;

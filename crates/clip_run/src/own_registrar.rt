@@ -7,6 +7,7 @@ ghost use Rattle.clip_registry.specs.Plan.{AreFew};
 ghost use Rattle.clip_registry.specs.RegistryState.{beginning, state_after};
 ghost use Rattle.clip_registry.specs.Steps.Turns.{TakesTurns};
 
+use crate::merging::{Merging, merged_after};
 use clip_front::Registry;
 use clip_match::Registrar;
 use clip_registry::merge_all;
@@ -69,13 +70,20 @@ impl OwnRegistrar {
         ensures unchanged { OnErr result (self.new ≡ self.old) }
     {
         match self.registrar.apply(CALLER, command) {
-            Ok(applied) => {
-                self.merges = merge_all(&mut self.registrar);
-                Ok(applied)
-            }
+            Ok(applied) => Ok(merged_after(applied, self)),
             Err((_, Refused::Full)) => Err(Refused::Full),
             Err((_, Refused::NoMemory)) => Err(Refused::NoMemory),
         }
+    }
+}
+
+impl Merging for OwnRegistrar {
+    ghost use Rattle.clip_run.specs.Unpurged.{HasTakenTurns};
+
+    ghost merges = { HasTakenTurns };
+
+    fn have_merged(&mut self) {
+        self.merges = merge_all(&mut self.registrar);
     }
 }
 

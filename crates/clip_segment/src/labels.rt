@@ -6,7 +6,7 @@ ghost use Rattle.clip_indexed.specs.Selecting.{flagged, kept_of};
 
 use crate::kept_terms::flags_of;
 use crate::labelled_index::LabelledIndex;
-use crate::packed_texts::PackedTexts;
+use crate::packed_texts::{PackedTexts, Room};
 use clip_standing::Entry;
 use clip_words::NoMemory;
 use std::alloc::Global;
@@ -19,15 +19,39 @@ pub(crate) struct Labels {
     pub(crate) heard: Vec<bool>,
 }
 
+/// Room for nothing.
+const NO_ROOM: Room = Room { count: 0, bytes: 0 };
+
+/// Room for the labels of these entries.
+fn room_for(entries: &[Arc<Entry>]) -> Room {
+    let mut room = NO_ROOM;
+    for entry in entries {
+        room = room.and(entry.standing().id());
+    }
+    room
+}
+
+/// Room for the labels of the kept entries of these indexes.
+fn room_for_kept(sources: &[&LabelledIndex], kept: &[Vec<bool>]) -> Room {
+    let mut room = NO_ROOM;
+    for place in 0..sources.len() {
+        room = sources[place]
+            .labels
+            .ids
+            .add_room(flags_of(kept, place), room);
+    }
+    room
+}
+
 impl Labels {
-    /// Those of no entries, with room for so many.
-    fn with_capacity(alloc: Global, count: usize) -> Result<Labels, NoMemory>
+    /// Those of no entries, with room for those of so many.
+    fn with_room(alloc: Global, room: Room) -> Result<Labels, NoMemory>
         ensures ids { IfOk result (λ labels. labels.ids ≡ []) }
         ensures heard { IfOk result (λ labels. labels.heard.items ≡ []) }
     {
         Ok(Labels {
-            ids: PackedTexts::with_capacity(alloc, count)?,
-            heard: Vec::with_capacity(alloc, count)?,
+            ids: PackedTexts::with_room(alloc, room)?,
+            heard: Vec::with_capacity(alloc, room.count)?,
         })
     }
 
@@ -49,7 +73,7 @@ impl Labels {
         ensures ids { IfOk result (λ labels. labels.ids ≡ ids_of (map arc_value entries.now)) }
         ensures heard { IfOk result (λ labels. labels.heard.items ≡ heard_of (map arc_value entries.now)) }
     {
-        let mut labels = Labels::with_capacity(alloc, entries.len())?;
+        let mut labels = Labels::with_room(alloc, room_for(entries))?;
         for entry in entries {
             let standing = entry.standing();
             labels = labels.with(standing.id(), standing.listener().is_some())?;
@@ -82,7 +106,7 @@ impl Labels {
         ensures heard { IfOk result (λ labels. labels.heard.items
             ≡ kept_of (map (λ s. s.now.labels.heard.items) sources.now) (map vec_items kept.now)) }
     {
-        let mut labels = Labels::with_capacity(alloc, 0)?;
+        let mut labels = Labels::with_room(alloc, room_for_kept(sources, kept))?;
         let mut place = 0;
         for source in sources {
             labels = labels.with_flagged(&source.labels, flags_of(kept, place))?;

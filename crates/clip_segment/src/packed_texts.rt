@@ -30,15 +30,45 @@ impl Model for PackedTexts {
     ghost invariant = { AreTexts };
 }
 
+/// How many texts there is to be room for, and for how many bytes of them together.
+#[derive(Clone, Copy, Debug)]
+pub(crate) struct Room {
+    pub(crate) count: usize,
+    pub(crate) bytes: usize,
+}
+
+impl Room {
+    /// This, and room for one text more; no more than numbers go.
+    pub(crate) fn and(self, text: &str) -> Room {
+        Room {
+            count: self.count.saturating_add(1),
+            bytes: self.bytes.saturating_add(text.len()),
+        }
+    }
+}
+
 impl PackedTexts {
-    /// No texts, with room for the ends of so many.
-    pub(crate) fn with_capacity(alloc: Global, count: usize) -> Result<PackedTexts, NoMemory>
+    /// No texts, with room for so many.
+    pub(crate) fn with_room(alloc: Global, room: Room) -> Result<PackedTexts, NoMemory>
         ensures { IfOk result (λ texts. texts ≡ []) }
     {
         Ok(PackedTexts {
-            all: String::new(alloc),
-            ends: Vec::with_capacity(alloc, count)?,
+            all: String::with_capacity(alloc, room.bytes)?,
+            ends: Vec::with_capacity(alloc, room.count)?,
         })
+    }
+
+    /// Room for what this room is for, and for those of these texts whose flags are set.
+    pub(crate) fn add_room(&self, flags: &[bool], room: Room) -> Room {
+        let mut room = room;
+        for place in 0..self.len() {
+            if flag_at(flags, place)
+                && let Some(text) = self.get(place)
+            {
+                room = room.and(text);
+            }
+        }
+        room
     }
 
     /// These texts and one more behind them.

@@ -7,9 +7,9 @@ ghost use Rattle.clip_plan.specs.Plan.{decoded, plan_of};
 ghost use Rattle.clip_segment.specs.Segment.{trees_of};
 
 use crate::segment::Segment;
-use clip_meaning::Hit;
+use clip_meaning::{FieldFlags, Hit};
 use clip_plan::Plans;
-use clip_terms::{FieldFlags, FieldSpots, Reading};
+use clip_terms::{FieldSpots, Reading};
 use clip_words::NoMemory;
 use std::alloc::Global;
 use std::marker::Model;

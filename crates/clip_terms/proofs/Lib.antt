@@ -10,7 +10,6 @@ pub mod NumberedKeys
 pub mod Numbers
 pub mod PastFronts
 pub mod PlacedWords
-pub mod RaisedFlags
 pub mod ReadingOf
 pub mod Repeating
 pub mod RunPlaces

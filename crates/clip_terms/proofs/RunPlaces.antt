@@ -1,18 +1,19 @@
 -- Where a run of numbers stands: at a spot of each of its numbers.
-use Rattle.std.proofs.Common.{◌≡◌, ℕ, zero, suc, ◌+◌, ◌-◌, ◌<◌, ◌≤◌, Bool, true, false, ◌&&◌, nat_le, List, []}
+use Rattle.std.proofs.Common.{◌≡◌, ℕ, zero, suc, ◌+◌, ◌-◌, ◌<◌, ◌≤◌, Bool, true, false, cond, ◌&&◌, nat_le, List, []}
 use Rattle.std.proofs.Common.{◌∷◌, length, drop, get_or, Option, Some, None, MatchOption, is_some}
-use Rattle.std.proofs.Common.{sym, ap, ◌∙◌, arith, eqb-true, inl, inr}
+use Rattle.std.proofs.Common.{refl, sym, ap, ◌∙◌, arith, eqb-true, inl, inr}
 use Rattle.std.specs.List.{list_any}
 use Rattle.std.proofs.lemmas.Bool.{or_cases, or_left, or_right, and_parts, and_from, le-leb}
 use Rattle.std.proofs.lemmas.Bool.{false_from_ne_true, false≢true, true≢false}
 use Rattle.std.proofs.lemmas.Option.{unwrap_or-slice_get}
 use Rattle.clip_grammar.proofs.Booleans.{same_answer}
 use Rattle.clip_meaning.specs.Hits.{is_within}
+use Rattle.clip_meaning.specs.Steps.Marks.{is_within_run}
 use Rattle.clip_terms.specs.declared.field_numbers.Anchor.{Anchor}
 use Rattle.clip_terms.specs.declared.field_numbers.Spot.{Spot}
 use Rattle.clip_terms.specs.declared.repeats.Aligned.{Aligned}
 use Rattle.clip_terms.specs.Steps.Runs.{is_number, begins_with, stands_among}
-use Rattle.clip_terms.specs.Steps.FieldNumbers.{IsAnchor, begins_before, covers_before, is_covered_from}
+use Rattle.clip_terms.specs.Steps.FieldNumbers.{IsAnchor, begins_before, covers_before, is_covered_from, start_before}
 use Rattle.clip_terms.proofs.Repeating.{begins_there, past_end, whole_stands}
 use Rattle.clip_terms.specs.Steps.Repeats.{IsNext}
 
@@ -138,6 +139,16 @@ module _ (run : List ℕ) (numbers : List (Option ℕ)) (anchor : Anchor) (is : 
         position =
             there.0 + anchor.place;
       })) _ (before there.0 there.1) (ap (λ s. is_within s (length run) k) from ∙ there.2)))
+
+-- a run covers a position from where it starts, if it stands about the spot
+pub covers_from_start : (run : List ℕ) (numbers : List (Option ℕ)) (place k : ℕ) (s : Spot)
+    → is_within_run (start_before run numbers place s) (length run) k ≡ covers_before run numbers place k s
+covers_from_start run numbers place k s = by_test (begins_before run numbers place s)
+  where
+    by_test : (b : Bool) → is_within_run (cond b (Some (s.position - place)) None) (length run) k
+        ≡ (b && is_within (s.position - place) (length run) k)
+    by_test true = refl
+    by_test false = refl
 
 -- ---- by a search from the start on
 

@@ -1,7 +1,7 @@
 -- Spots: where the term of a number stands in a field, and which positions a run of numbers covers.
-use Rattle.std.proofs.Common.{◌≡◌, ℕ, zero, suc, ◌+◌, ◌<◌, ◌≤◌, Bool, true, false, ◌&&◌, ◌||◌, nat_eq, nat_lt, nat_le}
+use Rattle.std.proofs.Common.{◌≡◌, ℕ, zero, suc, ◌+◌, ◌<◌, Bool, true, false, ◌&&◌, ◌||◌, nat_eq, nat_lt, nat_le}
 use Rattle.std.proofs.Common.{List, [], ◌∷◌, map, length, drop, get_or, bytes_eq, Option, unwrap_or, refl, sym, ap}
-use Rattle.std.proofs.Common.{subst, ◌∙◌, arith, eq-eqb, eqb-true}
+use Rattle.std.proofs.Common.{◌∙◌, arith, eq-eqb, eqb-true}
 use Rattle.std.specs.List.{list_any, starts_with}
 use Rattle.std.specs.List.Sorted.{IsStrictlySortedBy}
 use Rattle.std.specs.Cmp.{eq_by_cmp_equiv}
@@ -16,10 +16,9 @@ use Rattle.clip_grammar.proofs.Booleans.{same_answer}
 use Rattle.clip_meaning.specs.Article.{Fields}
 use Rattle.clip_meaning.specs.Hits.{is_within}
 use Rattle.clip_meaning.specs.Index.{numbered}
-use Rattle.clip_meaning.specs.Leads.{IsLead, has_lead, lead_of}
 use Rattle.clip_meaning.proofs.Marks.{at_numbered, within_none}
 use Rattle.clip_meaning.proofs.Numbered.{rest_dropped}
-use Rattle.clip_extract.specs.Keys.{KeyValue, Any, Word, Front, key_cmp, is_same, text_of}
+use Rattle.clip_extract.specs.Keys.{KeyValue, Any, Word, Front, key_cmp, is_same}
 use Rattle.clip_extract.specs.Covering.{field_keys}
 use Rattle.clip_extract.proofs.Order.{key_cmp_total, same_itself, same_key}
 use Rattle.clip_terms.specs.Reading.{stands_in}
@@ -28,10 +27,10 @@ use Rattle.clip_terms.specs.Spots.{FieldValue, is_at, covers_from, is_covered, i
 use Rattle.clip_terms.specs.Steps.FieldNumbers.{is_covered_from}
 use Rattle.clip_terms.specs.Steps.Leads.{heading, IsPart}
 use Rattle.clip_terms.specs.Steps.Runs.{begins_with}
-use Rattle.clip_terms.specs.Steps.Spots.{AreNear, IsOfArticle, covers_at}
+use Rattle.clip_terms.specs.Steps.Spots.{IsOfArticle}
 use Rattle.clip_terms.proofs.Runs.{begins, lacks}
 
--- ---- the postings of a key
+-- ---- the words of a key
 
 -- the word of a field is the key's where the field has the key's name and the word is the key's
 pub at_word : (g w f v : List ℕ) → is_same (Word g w) (Word f v) ≡ (bytes_eq f g && bytes_eq w v)
@@ -48,35 +47,6 @@ at_word g w f v =
     let word : w ≡ v = (bytes_eq-Decides w v).0 parts.1 in
     (λ i. is_same (Word g w) (Word (field i) (sym word i))) ∙ same_itself (Word g w))
 
--- no word is the key's
-pub none_near : (field : FieldValue) (key : KeyValue) → list_any (λ w. is_same (Word field.0 w) key) field.1 ≡ false
-    → AreNear field key []
-none_near field key out = record {
-  passes = λ p. is_same (Word field.0 p.0) key;
-  of_key = λ word position same. same;
-  just = λ test. sym (none test field.1 0 out);
-}
-  where
-    both : (a t b c : Bool) → (a || b) ≡ false → (b ≡ false → c ≡ false) → ((a && t) || c) ≡ false
-    both false t b c e rest = rest e
-    both true t b c e rest = absurd (true≢false e)
-
-    none : (test : List ℕ × ℕ → Bool) (ws : List (List ℕ)) (n : ℕ) → list_any (λ w. is_same (Word field.0 w) key) ws
-        ≡ false → list_any (λ p. is_same (Word field.0 p.0) key && test p) (numbered n ws) ≡ false
-    none test [] n e = refl
-    none test (w ∷ ws) n e = both (is_same (Word field.0 w) key) (test (w, n)) _ _ e (none test ws (n + 1))
-
--- the key past the last term is no word's
-pub none_past : (field : FieldValue) (terms : List KeyValue) (n : ℕ) → length terms ≤ n
-    → AreNear field (term_at terms n) []
-none_past field terms n past =
-    subst (λ key. AreNear field key []) (sym (ap (λ o. unwrap_or o Any) (slice_get_past terms n past)))
-    (none_near field Any (no_word field.1))
-  where
-    no_word : (ws : List (List ℕ)) → list_any (λ w. is_same (Word field.0 w) Any) ws ≡ false
-    no_word [] = refl
-    no_word (w ∷ ws) = no_word ws
-
 -- a key that is of no word in fields of this name is that of none of their words
 pub not_its_word : (name : List ℕ) (key : KeyValue) → is_word_of name key ≡ false → (w : List ℕ)
     → is_same (Word name w) key ≡ false
@@ -84,13 +54,6 @@ not_its_word name key other w =
     false_from_ne_true (is_same (Word name w) key) (λ same.
     false≢true (sym other ∙ ap (is_word_of name) (sym (same_key (Word name w) key same))
     ∙ (bytes_eq-Decides name name).1 refl))
-
-pub other_near : (field : FieldValue) (key : KeyValue) → is_word_of field.0 key ≡ false → AreNear field key []
-other_near field key other = none_near field key (no_word field.1)
-  where
-    no_word : (ws : List (List ℕ)) → list_any (λ w. is_same (Word field.0 w) key) ws ≡ false
-    no_word [] = refl
-    no_word (w ∷ ws) = (λ i. not_its_word field.0 key other w i || no_word ws i)
 
 -- a key with the heading of a field's words is of one
 under_heading : (name : List ℕ) (key : KeyValue) → heading key ≡ heading (Word name []) → is_word_of name key ≡ true
@@ -125,18 +88,6 @@ in_part terms name start end n part =
         absurd (false≢true (sym (ap (λ o. is_word_of name (unwrap_or o Any))
         (slice_get_past terms n (ltb-false n (length terms) e))) ∙ t))
 
--- the postings of the lead of its text are near a key
-pub lead_near : (field : FieldValue) (key : KeyValue) (lead : ℕ) (found : List (List ℕ × ℕ)) → IsLead (text_of key) lead
-    → ((test : List ℕ × ℕ → Bool)
-    → list_any test found ≡ list_any (λ p. has_lead lead p && test p) (numbered 0 field.1))
-    → AreNear field key found
-lead_near field key lead found is just = record {
-  passes = has_lead lead;
-  of_key = λ word position same. eq-eqb _ _ (ap (λ k. lead_of (text_of k)) (same_key (Word field.0 word) key same)
-      ∙ sym is.number);
-  just = just;
-}
-
 single : (b : Bool) → (b && true) ≡ b
 single true = refl
 single false = refl
@@ -163,11 +114,6 @@ of_article fields place lt key lacking =
 
 -- ---- a run
 
-guarded : (a b c d : Bool) → (b ≡ true → a ≡ true) → (a && ((b && c) && d)) ≡ ((b && c) && d)
-guarded a true c d pass = ap (λ x. x && (c && d)) (pass refl)
-guarded true false c d pass = refl
-guarded false false c d pass = refl
-
 -- what covers from a word on, where the keys of the words from there on are these
 from_word : (field : FieldValue) (keys : List KeyValue) (k start : ℕ) (w : List ℕ) (words : List (List ℕ))
     → drop start field.1 ≡ w ∷ words → covers_from field keys k start
@@ -175,32 +121,6 @@ from_word : (field : FieldValue) (keys : List KeyValue) (k start : ℕ) (w : Lis
 from_word field keys k start w words e =
     ap (λ xs. starts_with is_same xs keys && is_within start (length keys) k) (drop-map (Word field.0) start field.1
     ∙ ap (map (Word field.0)) e)
-
--- where a run of keys stands there stands the first of them
-run_of_near : (field : FieldValue) (key : KeyValue) (run : List KeyValue) (found : List (List ℕ × ℕ))
-    (near : AreNear field key found) (k start : ℕ) (words : List (List ℕ)) → drop start field.1 ≡ words
-    → list_any (λ (p : List ℕ × ℕ). near.passes p && covers_from field (key ∷ run) k p.1) (numbered start words)
-    ≡ list_any (λ (p : List ℕ × ℕ). covers_from field (key ∷ run) k p.1) (numbered start words)
-run_of_near field key run found near k start [] e = refl
-run_of_near field key run found near k start (w ∷ words) e =
-    let from = from_word field (key ∷ run) k start w words e in
-    let head : (near.passes (w, start) && covers_from field (key ∷ run) k start)
-    ≡ covers_from field (key ∷ run) k start =
-    ap (λ b. near.passes (w, start) && b) from
-    ∙ guarded (near.passes (w, start)) (is_same key (Word field.0 w)) _ _
-    (λ same. near.of_key w start ((eq_by_cmp_equiv key_cmp_total).symm (Word field.0 w) key ∙ same))
-    ∙ sym from in
-    ap (λ b. b || list_any (λ (p : List ℕ × ℕ). near.passes p && covers_from field (key ∷ run) k p.1)
-    (numbered (start + 1) words)) head
-    ∙ ap (λ b. covers_from field (key ∷ run) k start
-    || b) (run_of_near field key run found near k (start + 1) words (rest_dropped start field.1 w words e))
-
--- a run whose first key is of no word in fields of this name covers no position
-pub other_covered : (field : FieldValue) (key : KeyValue) (run : List KeyValue) (k : ℕ)
-    → is_word_of field.0 key ≡ false → is_covered field (key ∷ run) k ≡ false
-other_covered field key run k other =
-    let near : AreNear field key [] = other_near field key other in
-    sym (near.just (λ p. covers_from field (key ∷ run) k p.1) ∙ run_of_near field key run [] near k 0 field.1 refl)
 
 -- a run of one number covers the position that it begins at
 one_within : (start k : ℕ) → is_within start 1 k ≡ nat_eq k start
@@ -233,32 +153,6 @@ one_at field key k lt = one_covered field key k 0 field.1 refl
 module _ (terms : List KeyValue) (strict : IsStrictlySortedBy key_cmp terms) where
   abbrev numbers_of : List ℕ → List (List ℕ) → List (Option ℕ)
   numbers_of name words = map (number_of terms) (map (Word name) words)
-
-  run_at : (field : FieldValue) (run : List ℕ) (k start : ℕ)
-      → (begins_with run (drop start (numbers_of field.0 field.1)) && is_within start (length run) k)
-      ≡ covers_from field (map (term_at terms) run) k start
-  run_at field run k start =
-      ap (λ xs. begins_with run xs && is_within start (length run) k)
-      (drop-map (number_of terms) start (map (Word field.0) field.1)
-      ∙ ap (map (number_of terms)) (drop-map (Word field.0) start field.1))
-      ∙ ap (λ b. b && is_within start (length run) k) (begins terms strict field.0 run (drop start field.1))
-      ∙ ap (λ xs. starts_with is_same xs (map (term_at terms) run) && is_within start (length run) k)
-      (sym (drop-map (Word field.0) start field.1))
-      ∙ ap (λ m. starts_with is_same (drop start (field_keys field)) (map (term_at terms) run)
-      && is_within start m k) (sym (length-map run (term_at terms)))
-
-  -- postings near the term of its first number settle which positions a run covers
-  pub run_postings : (field : FieldValue) (numbers : List (Option ℕ)) (found : List (List ℕ × ℕ)) (run : List ℕ)
-      (x k : ℕ) → 0 < length run → x ≡ get_or run 0 x → numbers ≡ map (number_of terms) (field_keys field)
-      → AreNear field (term_at terms x) found → list_any (covers_at run numbers k) found
-      ≡ is_covered field (map (term_at terms) run) k
-  run_postings field numbers found [] x k some is are near = absurd (omega arith)
-  run_postings field numbers found (n ∷ run) x k some is are near =
-      let first : AreNear field (term_at terms n) found = subst (λ m. AreNear field (term_at terms m) found) is near in
-      ap (λ os. list_any (covers_at (n ∷ run) os k) found) are
-      ∙ (λ i. list_any (λ (p : List ℕ × ℕ). run_at field (n ∷ run) k p.1 i) found)
-      ∙ first.just (λ p. covers_from field (map (term_at terms) (n ∷ run)) k p.1)
-      ∙ run_of_near field (term_at terms n) (map (term_at terms) run) found first k 0 field.1 refl
 
   -- a run covers by its numbers the positions that it covers by its keys
   covered_words : (field : FieldValue) (run : List ℕ) (k start : ℕ) (words : List (List ℕ)) → drop start field.1 ≡ words

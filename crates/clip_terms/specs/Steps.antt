@@ -3,7 +3,6 @@ pub mod AskedField
 pub mod Asking
 pub mod FieldNumbers
 pub mod FieldTerms
-pub mod Flags
 pub mod Fronts
 pub mod KeysByField
 pub mod Leads

@@ -6,14 +6,13 @@ ghost use Rattle.clip_extract.specs.Covering.{field_keys};
 ghost use Rattle.clip_terms.specs.Terms.{number_of};
 ghost use Rattle.clip_terms.specs.Steps.Runs.{stands_among};
 ghost use Rattle.clip_terms.specs.Steps.FieldNumbers.{spot_of, spots_of, HasEach, IsAnchor};
-ghost use Rattle.clip_terms.specs.Steps.FieldNumbers.{begins_before, covers_before, is_covered_from};
+ghost use Rattle.clip_terms.specs.Steps.FieldNumbers.{begins_before, covers_before, is_covered_from, start_before};
 
-use crate::flags::FieldFlags;
 use crate::matching::stands_about;
 use crate::reading::number_at;
 use crate::repeats::{AT_START, Repeats};
 use crate::terms::Terms;
-use clip_meaning::{Field, Posting};
+use clip_meaning::{Field, FieldFlags, Posting};
 use clip_words::NoMemory;
 use std::alloc::Global;
 use std::marker::Model;
@@ -113,11 +112,19 @@ fn mark_about(numbers: &[Option<u32>], run: &[u32], anchor: &Anchor<'_>, flags: 
     ensures raised { AreRaised flags.old flags.new
         (λ k. list_any (covers_before run.now numbers.now anchor.now.place k) anchor.now.spots.now) }
 {
-    for spot in anchor.spots {
-        if stands_about(numbers, run, anchor.place, spot) {
-            flags.raise(spot.position - anchor.place, run.len());
-        }
-    }
+    flags.raise_runs(
+        anchor.spots,
+        run.len(),
+        |spot: &Spot| -> Option<usize>
+            ensures { result ≡ start_before run.entry.now numbers.entry.now anchor.entry.now.place spot.now }
+        {
+            if stands_about(numbers, run, anchor.place, spot) {
+                Some(spot.position - anchor.place)
+            } else {
+                None
+            }
+        },
+    );
 }
 
 impl FieldNumbers {

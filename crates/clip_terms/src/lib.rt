@@ -6,7 +6,6 @@ ghost use Rattle.std.specs.Prelude.{◌≡◌};
 mod asking;
 mod field_numbers;
 mod field_terms;
-mod flags;
 mod heads;
 mod leads;
 mod likely;
@@ -21,7 +20,6 @@ mod word_keys;
 
 pub use asking::Asking;
 pub use field_terms::FieldTerms;
-pub use flags::FieldFlags;
 pub use heads::{Head, merged};
 pub use reading::Reading;
 pub use spots::FieldSpots;

@@ -6,8 +6,8 @@ ghost use Rattle.clip_terms.specs.Steps.Runs.{is_number, begins_with};
 ghost use Rattle.clip_terms.specs.Steps.FieldNumbers.{is_covered_from};
 ghost use Rattle.clip_terms.specs.Steps.Repeats.{Returns, NoneBelow, AreRepeats, Moves, Agree, IsNext};
 
-use crate::flags::FieldFlags;
 use crate::matching::is_number;
+use clip_meaning::FieldFlags;
 
 /// The most spans of a run. Each has a longer period than the two before it together, so these are enough for a run of
 /// 2^32 numbers; the beginnings of a longer one are taken for shorter ones.

@@ -1,19 +1,15 @@
 //! Where the words of a field are, by the numbers of their terms.
-ghost use Rattle.std.specs.Prelude.{◌≡◌, [], ◌∷◌, map, length, drop};
-ghost use Rattle.std.specs.List.{list_any};
+ghost use Rattle.std.specs.Prelude.{◌≡◌, map, length};
 ghost use Rattle.clip_meaning.specs.Steps.Marks.{AreRaised};
 ghost use Rattle.clip_extract.specs.Covering.{field_keys};
 ghost use Rattle.clip_terms.specs.Spots.{is_at, is_covered, is_word_of, spots_among};
 ghost use Rattle.clip_terms.specs.Terms.{number_of, term_at};
-ghost use Rattle.clip_terms.specs.Steps.Runs.{begins_with};
-ghost use Rattle.clip_terms.specs.Steps.Spots.{AreNear, IsOfArticle, covers_at};
+ghost use Rattle.clip_terms.specs.Steps.Spots.{IsOfArticle};
 
 use crate::field_numbers::FieldNumbers;
-use crate::flags::FieldFlags;
-use crate::matching::is_number;
 use crate::reading::Reading;
 use crate::terms::Terms;
-use clip_meaning::{Field, Posting};
+use clip_meaning::{Field, FieldFlags};
 use std::marker::Model;
 use std::ops::Range;
 
@@ -38,30 +34,6 @@ impl<'a> Model for FieldSpots<'a> {
     ghost view = { spots_value };
 
     ghost invariant = { AreSpots };
-}
-
-/// Whether this number is at a position.
-fn is_number_at(numbers: &[Option<u32>], position: usize, number: u32) -> bool
-    ensures { result ≡ begins_with (number ∷ []) (drop position numbers.now) }
-{
-    match numbers.get(position) {
-        Some(found) => is_number(*found, number),
-        None => false,
-    }
-}
-
-/// Raises the flags at those of the postings where this number is.
-fn mark_places(postings: &[Posting], numbers: &[Option<u32>], number: u32, flags: &mut FieldFlags)
-    ensures long { length flags.new ≡ length flags.old }
-    ensures raised { AreRaised flags.old flags.new
-        (λ k. list_any (covers_at (number ∷ []) numbers.now k) postings.now) }
-{
-    for posting in postings {
-        let position = posting.position();
-        if is_number_at(numbers, position, number) {
-            flags.raise(position, 1);
-        }
-    }
 }
 
 impl<'a> FieldSpots<'a> {
@@ -110,38 +82,22 @@ impl<'a> FieldSpots<'a> {
         self.range.start <= number && number < self.range.end
     }
 
-    /// Postings of the field, among which all of the term of a number are: none where the term is of another field or
-    /// the article lacks it, and else those of the lead of its text. No text is looked at.
-    fn postings_near(&self, number: u32) -> &'a [Posting]
-        ensures { AreNear self.now.field (term_at self.now.terms number) result.now }
-    {
-        if !self.is_of_field(number) {
-            return &[];
-        }
-        if !self.reading.has(number) {
-            return &[];
-        }
-        match self.terms().leads().get(number as usize) {
-            Some(lead) => self.field.of_lead(*lead),
-            None => &[],
-        }
-    }
-
     /// Raises the flags of the positions at which the term of a number occurs. Takes no memory. Cost: where the term is
-    /// of this field and the article has it a binary search among the field's words and a step for each of those
-    /// that begin with the same eight bytes; constant where it isn't or doesn't.
+    /// of this field and the article has it two binary searches among the field's words, and a step for each of these
+    /// positions; constant where it isn't or doesn't.
     pub fn mark_term(&self, number: u32, flags: &mut FieldFlags)
         requires { length flags.old ≡ length self.now.field.1 }
         ensures long { length flags.new ≡ length flags.old }
         ensures raised { AreRaised flags.old flags.new
             (λ k. is_at self.now.field k (term_at self.now.terms number)) }
     {
-        mark_places(
-            self.postings_near(number),
-            self.numbers.numbers(),
-            number,
-            flags,
-        );
+        if !self.is_of_field(number) {
+            return;
+        }
+        if !self.reading.has(number) {
+            return;
+        }
+        self.mark_run(&[number], flags);
     }
 
     /// Raises the flags of the positions that the terms of these numbers cover where they are next to each other, in

@@ -1,5 +1,5 @@
 -- The numbers of a field's words, where each is, and the runs among them.
-use Rattle.std.specs.Prelude.{◌≡◌, ℕ, ◌+◌, ◌-◌, ◌<◌, ◌≤◌, nat_le, Bool, true, false, ◌&&◌, ◌||◌, List, [], ◌∷◌, ◌++◌}
+use Rattle.std.specs.Prelude.{◌≡◌, ℕ, ◌+◌, ◌-◌, ◌<◌, ◌≤◌, nat_le, Bool, true, false, cond, ◌&&◌, ◌||◌, List, [], ◌∷◌, ◌++◌}
 use Rattle.std.specs.Prelude.{length, drop, get_or, slice_index, Option, Some, None}
 use Rattle.std.specs.List.{list_any}
 use Rattle.clip_meaning.specs.Hits.{is_within}
@@ -47,6 +47,11 @@ begins_before run numbers place spot =
 abbrev pub covers_before : (run : List ℕ) (numbers : List (Option ℕ)) (place position : ℕ) → Spot → Bool
 covers_before run numbers place position spot =
     begins_before run numbers place spot && is_within (spot.position - place) (length run) position
+
+-- where the run starts whose number of this place is at the spot, if it occurs so
+abbrev pub start_before : (run : List ℕ) (numbers : List (Option ℕ)) (place : ℕ) → Spot → Option ℕ
+start_before run numbers place spot =
+    cond (begins_before run numbers place spot) (Some (spot.position - place)) None
 
 -- somewhere among the numbers, of which the first is that of `start`, the run occurs, and the position is the run's
 abbrev pub is_covered_from : (run : List ℕ) (position start : ℕ) → List (Option ℕ) → Bool

@@ -8,7 +8,7 @@ use Rattle.clip_meaning.proofs.hit.+mark.Goals as goal
 
 pub returns-after-loop-occur-clause-raised : goal.returns-after-loop-occur-clause-raised
 returns-after-loop-occur-clause-raised t c k lt =
-    let old = is_up (get_or c.args.flags.now.items k 0) in
+    let old = is_up (get_or c.args.flags.now k 0) in
     let field = c.args.field.now in
     let cs = c.deref-occur-items.result.now in
     raise_end (asked field k) cs c.loop-occur.occur-index _ _ c.loop-occur-test.false

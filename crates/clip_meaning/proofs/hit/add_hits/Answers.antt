@@ -16,18 +16,17 @@ returns c =
     let count = length c.words.result.now in
     let words : count ≡ length field.1 = sym (length-map c.words.result.now arc_str_bytes)
     ∙ ap length c.words.ensures in
-    let start : c.in_ok-flags.flags.items ≡ replicate count 0 =
-    c.in_ok-flags.ensures.items_if_clones_equal (λ y e. e) in
-    let started : length c.in_ok-flags.flags.items ≡ count = ap length start ∙ length-replicate count 0 in
-    let down : (k : ℕ) → k < count → is_up (get_or c.in_ok-flags.flags.items k 0) ≡ false =
+    let start : c.restart.new.self ≡ replicate count 0 = c.in_ok-restart.ensures.ok in
+    let started : length c.restart.new.self ≡ count = ap length start ∙ length-replicate count 0 in
+    let down : (k : ℕ) → k < count → is_up (get_or c.restart.new.self k 0) ≡ false =
     λ k lt. ap (λ xs. is_up (get_or xs k 0)) start ∙ ap is_up (get_or-replicate count k 0 0 lt) in
-    let long : length c.mark.new.flags.items ≡ length field.1 = c.mark.ensures.long ∙ started ∙ words in
-    let up : (k : ℕ) → k < length field.1 → is_up (get_or c.mark.new.flags.items k 0)
+    let long : length c.mark.new.flags ≡ length field.1 = c.mark.ensures.long ∙ started ∙ words in
+    let up : (k : ℕ) → k < length field.1 → is_up (get_or c.mark.new.flags k 0)
     ≡ is_named tree field.0 field.1 (get_or field.1 k [], k) = λ k lt.
     c.mark.ensures.raised k (omega (arith, lt, started, words))
     ∙ ap (λ b. b || is_named tree field.0 field.1 (get_or field.1 k [], k)) (down k (omega (arith, lt, words))) in
-    let found : raised (arc_str_bytes c.name.result.now) c.deref.result.now ≡ hits_in tree field =
-    (λ i. raised (c.name.ensures i) (c.deref.ensures.value i))
-    ∙ raised_hits (is_named tree field.0 field.1) field.0 field.1 c.mark.new.flags.items long up in
-    subst (λ hs. OnOk c.add_raised.result (map hit_value c.add_raised.new.found.items
-    ≡ map hit_value c.args.found.now.items ++ hs)) found c.add_raised.ensures
+    let found : raised (arc_str_bytes c.name.result.now) c.mark.new.flags ≡ hits_in tree field =
+    (λ i. raised (c.name.ensures i) c.mark.new.flags)
+    ∙ raised_hits (is_named tree field.0 field.1) field.0 field.1 c.mark.new.flags long up in
+    subst (λ hs. OnOk c.add_hits.result (map hit_value c.add_hits.new.found.items
+    ≡ map hit_value c.args.found.now.items ++ hs)) found c.add_hits.ensures

@@ -1,19 +1,15 @@
-use Rattle.std.proofs.Common.{◌≡◌, ℕ, ◌+◌, List, [], ◌∷◌, ◌++◌, map, drop, append_assoc, append-nil, sym, ap, ◌∙◌}
+use Rattle.std.proofs.Common.{◌≡◌, ℕ, ◌+◌, List, ◌∷◌, ◌++◌, map, drop, append_assoc, append-nil, sym, ap, ◌∙◌}
 use Rattle.std.proofs.Common.{subst}
 use Rattle.std.specs.Arc.{arc_str_bytes}
 use Rattle.std.proofs.lemmas.List.{drop_more, drop_all}
-use Rattle.std.proofs.lemmas.List.Elements.{All-nil, All-cons, All-append}
 use Rattle.clip_meaning.specs.Index.{numbered}
-use Rattle.clip_meaning.specs.Leads.{AreBytes, IsLead}
-use Rattle.clip_meaning.proofs.LeadPostings.{Led}
-use Rattle.clip_meaning.proofs.Postings.{Place}
+use Rattle.clip_meaning.specs.Leads.{IsLead}
 use Rattle.clip_meaning.proofs.index.postings_of.Goals as goal
 
 pub loop-word-init : goal.loop-word-init
 loop-word-init c = record {
   count = c.in_ok-postings.ensures.len;
   words = ap (λ ps. ps ++ numbered 0 (map arc_str_bytes c.args.words.now)) c.in_ok-postings.ensures.items;
-  bytes = subst Led (sym c.in_ok-postings.ensures.items) (All-nil (λ (p : Place). AreBytes p.0));
 }
 
 pub invariant_of-posting : goal.invariant_of-posting
@@ -38,19 +34,12 @@ loop-word-preserved c =
       words = ap (λ ps. ps ++ rest) c.in_ok-push.ensures.items ∙ append_assoc old _ rest
           ∙ ap (λ (p : List ℕ × ℕ). old ++ p ∷ rest) posting
           ∙ ap (λ ps. old ++ ps) (sym next) ∙ c.loop-word.invariant.words;
-      bytes = subst Led (sym c.in_ok-push.ensures.items)
-          (All-append (λ (p : Place). AreBytes p.0) old _ c.loop-word.invariant.bytes
-          (All-cons (λ (p : Place). AreBytes p.0) _ [] (subst AreBytes (c.deref.ensures.value
-          ∙ sym c.in_ok-clone.ensures.cases) c.lead_of.ensures.bytes) (All-nil (λ (p : Place). AreBytes p.0))));
     }
 
-pub returns-clause-words : goal.returns-clause-words
-returns-clause-words c =
+pub returns : goal.returns
+returns c =
     let i = c.loop-word.word-index in
     let postings = c.loop-word.postings.items in
     sym (append-nil postings)
     ∙ ap (λ ws. postings ++ numbered i (map arc_str_bytes ws))
     (sym (drop_all i c.args.words.now c.loop-word-test.false)) ∙ c.loop-word.invariant.words
-
-pub returns-clause-bytes : goal.returns-clause-bytes
-returns-clause-bytes c = c.loop-word.invariant.bytes

@@ -1,8 +1,9 @@
 use Rattle.std.proofs.Common.{[], ◌∷◌, get_or, sym, ap, ◌∙◌}
 use Rattle.clip_terms.specs.Terms.{term_at}
-use Rattle.clip_terms.proofs.Spotted.{not_its_word, other_covered}
+use Rattle.clip_terms.proofs.Spotted.{not_its_word}
 use Rattle.clip_plan.specs.Steps.Judging.{meant}
 use Rattle.clip_plan.specs.Steps.Naming.{mark_names}
+use Rattle.clip_plan.proofs.Named.{other_covered}
 use Rattle.clip_plan.proofs.naming.step_may_name.Goals as goal
 
 pub returns-in-Term : goal.returns-in-Term

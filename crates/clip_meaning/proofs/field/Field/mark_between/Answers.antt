@@ -9,9 +9,9 @@ use Rattle.clip_meaning.proofs.field.Field.mark_between.Goals as goal
 
 pub returns-clause-raised : goal.returns-clause-raised
 returns-clause-raised c k lt =
-    let old = is_up (get_or c.args.flags.now.items k 0) in
+    let old = is_up (get_or c.args.flags.now k 0) in
     let words = map arc_str_bytes c.self.inside.words.items in
-    c.mark_all.ensures.raised k lt
+    c.raise_all.ensures.raised k lt
     ∙ ap (λ b. old || b) (passing_at (λ w. is_between (end_of c.args.low.now) (end_of c.args.high.now) w) words
     c.self.inside.index c.between.result.now k c.self.invariant c.between.ensures
     (omega (arith, lt, c.requires, ap (λ (e : Entry). length e.1) c.self.view_is)))

@@ -8,9 +8,9 @@ use Rattle.clip_meaning.proofs.field.Field.mark_front.Goals as goal
 
 pub returns-clause-raised : goal.returns-clause-raised
 returns-clause-raised c k lt =
-    let old = is_up (get_or c.args.flags.now.items k 0) in
+    let old = is_up (get_or c.args.flags.now k 0) in
     let words = map arc_str_bytes c.self.inside.words.items in
-    c.mark_all.ensures.raised k lt
+    c.raise_all.ensures.raised k lt
     ∙ ap (λ b. old || b) (passing_at (λ w. begins_with c.args.front.now w) words c.self.inside.index
     c.with_front.result.now k c.self.invariant c.with_front.ensures
     (omega (arith, lt, c.requires, ap (λ (e : Entry). length e.1) c.self.view_is)))

@@ -12,7 +12,7 @@ use Rattle.clip_meaning.proofs.field.Field.mark_phrase.Goals as goal
 
 pub returns-in-Some-clause-raised : goal.returns-in-Some-clause-raised
 returns-in-Some-clause-raised c k lt =
-    let old = is_up (get_or c.args.flags.now.items k 0) in
+    let old = is_up (get_or c.args.flags.now k 0) in
     let phrase = map arc_str_bytes c.args.phrase.now in
     let words = map arc_str_bytes c.self.inside.words.items in
     let found : c.occurrences.result.now
@@ -29,7 +29,7 @@ returns-in-Some-clause-raised c k lt =
 
 pub returns-in_default-clause-raised : goal.returns-in_default-clause-raised
 returns-in_default-clause-raised c k lt =
-    let old = is_up (get_or c.args.flags.now.items k 0) in
+    let old = is_up (get_or c.args.flags.now k 0) in
     let words = c.args.self.now.1 in
     let none : c.args.phrase.now ≡ [] = nil_from_length c.args.phrase.now (omega (arith, c.in_default.ensures.item)) in
     sym (ap (λ ph. old || list_any (λ (p : Place). covers words (map arc_str_bytes ph) k p.1) (numbered 0 words)) none

@@ -6,11 +6,12 @@ use Rattle.clip_run.proofs.own_registrar.OwnRegistrar.commit.Goals as goal
 pub returns-in-Ok : goal.returns-in-Ok
 returns-in-Ok c =
     let e = c.in-Ok.ensures in
+    let merged = c.merged_after.ensures.merged in
     record {
-      turns = subst (λ s. TakesTurns s c.merge_all-self.new.registrar) e.accepted c.merge_all-self.ensures.turns;
-      few = c.merge_all-self.ensures.few;
-      accepted = c.merge_all-self.ensures.history ∙ ap (λ s. s.history) e.accepted;
-      answer = e.answer;
+      turns = subst (λ s. TakesTurns s c.merged_after.new.merging.registrar) e.accepted merged.turns;
+      few = merged.few;
+      accepted = merged.history ∙ ap (λ s. s.history) e.accepted;
+      answer = c.merged_after.ensures.answer ∙ e.answer;
       room = e.room;
       full = tt;
       unchanged = tt;
