@@ -1,17 +1,17 @@
 -- A list of keys that is sorted and has none twice.
-use Rattle.std.proofs.Common.{◌≡◌, ℕ, Bool, ◌&&◌, List, [], ◌∷◌, map, length, ◌<◌, refl, sym, ap, ◌∙◌, subst, arith}
+use Rattle.std.proofs.Common.{◌≡◌, ℕ, ◌+◌, Bool, ◌&&◌, List, [], ◌∷◌, map, length, ◌<◌, refl, sym, ap, ◌∙◌, subst, arith}
 use Rattle.std.proofs.Common.{IsPermutation}
-use Rattle.std.specs.Ordering.{is_eq, on, nat_cmp, ordering_then}
+use Rattle.std.specs.Ordering.{is_eq, is_lt, on, nat_cmp, ordering_then}
 use Rattle.std.specs.declared.cmp.Ordering.TheVariants.{Less, Equal, Greater}
 use Rattle.std.specs.declared.cmp.Ordering.{Ordering}
 use Rattle.std.specs.Cmp.{on_total, eq_by_cmp_equiv, both_tied}
 use Rattle.std.specs.Cmp.Lexicographic.{slice_cmp, texts_ties}
 use Rattle.std.specs.Arc.{arc_str_bytes}
 use Rattle.std.specs.Str.{bytes_eq}
-use Rattle.std.specs.List.{dedup, AllByRecursion}
-use Rattle.std.specs.List.Sorted.{IsSorted, IsStrictlySortedBy}
+use Rattle.std.specs.List.{dedup, list_any, AllByRecursion}
+use Rattle.std.specs.List.Sorted.{IsSorted, IsSortedBy, IsStrictlySortedBy}
 use Rattle.std.specs.List.Retain.{IsFiltered, DiffersFromLast}
-use Rattle.std.proofs.lemmas.List.{length-map}
+use Rattle.std.proofs.lemmas.List.{length-map, get_or-map}
 use Rattle.std.proofs.lemmas.List.Filters.{dedup_is}
 use Rattle.std.proofs.lemmas.List.Kept.{IsStrictlySortedBy-dedup}
 use Rattle.std.proofs.lemmas.List.Sorted.{list_any-IsPermutation}
@@ -82,12 +82,13 @@ unfolding IsStrictlySortedBy
 strict_mapped [] sorted = tt
 strict_mapped (x ∷ xs) sorted = (all_mapped (key_of x) xs sorted.0, strict_mapped xs sorted.1)
 
-pub sorted_keys : (xs ys zs : List Key) → IsPermutation xs ys → IsSorted key_ord.ghosts.cmp ys
-    → IsFiltered (DiffersFromLast key_eq.ghosts.eq) [] ys zs → map key_of zs ≡ in_order (map key_of xs)
-sorted_keys xs ys zs moved sorted filtered =
-    let order : key_ord.ghosts.cmp ≡ on key_of key_cmp = λ i x y. key_order x y i in
+-- of keys in order that are among others, as these are among them
+deduped_keys : (xs ys zs : List Key)
+    → ((k : KeyValue) → list_any (is_same k) (map key_of ys) ≡ list_any (is_same k) (map key_of xs))
+    → IsSorted (on key_of key_cmp) ys → IsFiltered (DiffersFromLast key_eq.ghosts.eq) [] ys zs
+    → map key_of zs ≡ in_order (map key_of xs)
+deduped_keys xs ys zs among rising filtered =
     let equality : key_eq.ghosts.eq ≡ same_keys = λ i x y. key_equality x y i in
-    let rising : IsSorted (on key_of key_cmp) ys = subst (λ (C : Key → Key → Ordering). IsSorted C ys) order sorted in
     let left : zs ≡ dedup same_keys ys =
     dedup_is same_keys ys zs
     (subst (λ (E : Key → Key → Bool). IsFiltered (DiffersFromLast E) [] ys zs) equality filtered) in
@@ -98,8 +99,32 @@ sorted_keys xs ys zs moved sorted filtered =
     (strict_mapped (dedup same_keys ys) strict)
     (λ k. any_map (is_same k) key_of (dedup same_keys ys)
     ∙ any_deduped (eq_by_cmp_equiv (on_total key_of key_cmp_total)) key_of (λ x y. same_key (key_of x) (key_of y))
-    (is_same k) ys ∙ sym (list_any-IsPermutation (λ x. is_same k (key_of x)) xs ys moved)
+    (is_same k) ys ∙ sym (any_map (is_same k) key_of ys) ∙ among k)
+
+pub sorted_keys : (xs ys zs : List Key) → IsPermutation xs ys → IsSorted key_ord.ghosts.cmp ys
+    → IsFiltered (DiffersFromLast key_eq.ghosts.eq) [] ys zs → map key_of zs ≡ in_order (map key_of xs)
+sorted_keys xs ys zs moved sorted =
+    let order : key_ord.ghosts.cmp ≡ on key_of key_cmp = λ i x y. key_order x y i in
+    deduped_keys xs ys zs
+    (λ k. any_map (is_same k) key_of ys ∙ sym (list_any-IsPermutation (λ x. is_same k (key_of x)) xs ys moved)
     ∙ sym (any_map (is_same k) key_of xs))
+    (subst (λ (C : Key → Key → Ordering). IsSorted C ys) order sorted)
+
+-- what is in order as values
+unmapped : {A B : Type 0} (f : A → B) (lt : B → B → Bool) (xs : List A) → IsSortedBy lt (map f xs)
+    → IsSortedBy (λ x y. lt (f x) (f y)) xs
+unmapped f lt xs sorted k d low inside =
+    let next = get_or-map f xs (k + 1) d (f d) inside in
+    let this = get_or-map f xs k d (f d) (omega arith) in
+    (λ i. lt (sym next i) (sym this i)) ∙ sorted k (f d) low (omega (arith, length-map xs f))
+
+pub sorted_values : (xs ys zs : List Key) → IsPermutation (map key_of xs) (map key_of ys)
+    → IsSorted key_cmp (map key_of ys) → IsFiltered (DiffersFromLast key_eq.ghosts.eq) [] ys zs
+    → map key_of zs ≡ in_order (map key_of xs)
+sorted_values xs ys zs moved sorted =
+    deduped_keys xs ys zs
+    (λ k. sym (list_any-IsPermutation (is_same k) (map key_of xs) (map key_of ys) moved))
+    (unmapped key_of (λ k l. is_lt (key_cmp k l)) ys sorted)
 
 -- so few need no sort
 few_rise : (ks : List KeyValue) → length ks < 2 → IsStrictlySortedBy key_cmp ks

@@ -61,6 +61,17 @@ leads_settle xs ys m n a b apart = by_order (nat_cmp m n) (ranked m n _ refl)
     by_order Greater more = sym (nat_list_cmp_total.antisymm xs ys
         ∙ ap ordering_reverse (lead_below ys xs n m b a more))
 
+-- of two texts whose leads differ, whatever is compared after them
+pub leads_settle_first : (xs ys : List ℕ) (m n : ℕ) (after : Ordering) → IsLead xs m → IsLead ys n → (m ≡ n → ⊥)
+    → nat_cmp m n ≡ ordering_then (bytes_cmp xs ys) after
+leads_settle_first xs ys m n after a b apart = by_order (nat_cmp m n) (ranked m n _ refl)
+  where
+    by_order : (o : Ordering) → MatchOrdering o (m < n) (m ≡ n) (n < m) → o ≡ ordering_then (bytes_cmp xs ys) after
+    by_order Less less = ap (λ o. ordering_then o after) (sym (lead_below xs ys m n a b less))
+    by_order Equal same = absurd (apart same)
+    by_order Greater more = ap (λ o. ordering_then o after)
+        (sym (nat_list_cmp_total.antisymm xs ys ∙ ap ordering_reverse (lead_below ys xs n m b a more)))
+
 -- of two texts of the same length that have no byte past the lead
 tied : (k m : ℕ) (xs ys : List ℕ) → AreBytes xs → AreBytes ys → length xs ≡ length ys → length xs ≤ k
     → lead_after m k xs ≡ lead_after m k ys → bytes_cmp xs ys ≡ Equal

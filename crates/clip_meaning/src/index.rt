@@ -66,6 +66,14 @@ impl Posting {
     {
         self.lead
     }
+
+    /// Whether another posting is of the same word. Looks at the texts only where both have the same lead. Takes no
+    /// memory.
+    pub fn has_word_of(&self, other: &Posting) -> bool
+        ensures { result ≡ bytes_eq self.now.0 other.now.0 }
+    {
+        self.lead == other.lead && self.word.as_str() == other.word.as_str()
+    }
 }
 
 /// Compares postings by their words, and those of one word by their positions. Looks at the texts only where the words
@@ -73,6 +81,9 @@ impl Posting {
 fn order(a: &Posting, b: &Posting) -> Ordering
     ensures { result ≡ posting_cmp a.now b.now }
 {
+    if a.lead != b.lead {
+        return a.lead.cmp(&b.lead);
+    }
     compare_by_leads(a.word.as_str(), a.lead, b.word.as_str(), b.lead).then(
         a.position.cmp(&b.position),
     )

@@ -38,19 +38,21 @@ impl<'a> Model for AskedField<'a> {
     ghost invariant = { IsAskedField };
 }
 
-/// Adds the key of a posting's word, unless it is the last word that was added.
+/// Adds the key of a posting's word, unless it is that of the posting before it.
 fn add_differing<'a>(
     posting: &'a Posting,
-    last: Option<&str>,
+    last: Option<&'a Posting>,
     keys: &mut WordKeys<'a>,
 ) -> Result<(), NoMemory>
     requires { AreKept keys.old }
     ensures added { OnOk result (keys_in keys.new ≡ keys_in keys.old
-        ++ key_added (arc_str_bytes keys.old.field.now) (option_map (λ w. w.now) last.entry) posting.now.0) }
+        ++ key_added (arc_str_bytes keys.old.field.now) (option_map (λ p. p.now.0) last.entry) posting.now.0) }
     ensures field { OnOk result (keys.new.field ≡ keys.old.field) }
     ensures kept { OnOk result (AreKept keys.new) }
 {
-    if last == Some(posting.word().as_str()) {
+    if let Some(last) = last
+        && last.has_word_of(posting)
+    {
         return Ok(());
     }
     keys.push(posting)?;
@@ -74,10 +76,10 @@ fn place_words<'a>(
     ensures placed { OnOk result (All
         (IsPlaced (arc_str_bytes keys.old.field.now) (keys_in keys.new) places.new.items) postings.now) }
 {
-    let mut last: Option<&str> = None;
+    let mut last: Option<&Posting> = None;
     for posting in postings {
         add_differing(posting, last, keys)?;
-        last = Some(posting.word().as_str());
+        last = Some(posting);
         places[posting.position()] = keys.len() - 1;
     }
     Ok(())

@@ -1,4 +1,4 @@
-use Rattle.std.proofs.Common.{◌≡◌, ℕ, ◌-◌, ◌+◌, ◌<◌, List, ◌++◌, All, Some, option_map, map, length, take, drop, set}
+use Rattle.std.proofs.Common.{◌≡◌, ℕ, ◌-◌, ◌+◌, ◌<◌, List, ◌++◌, All, option_map, map, length, take, set}
 use Rattle.std.proofs.Common.{length-set, append-nil, refl, ap, sym, ◌∙◌, subst, Bor, Global}
 use Rattle.std.specs.Arc.{arc_str_bytes}
 use Rattle.std.specs.declared.sync.ArcStr.{ArcStr}
@@ -6,7 +6,7 @@ use Rattle.std.proofs.lemmas.List.{take_all, drop_all}
 use Rattle.std.proofs.lemmas.List.Elements.{All-nil}
 use Rattle.clip_extract.specs.Keys.{Word}
 use Rattle.clip_terms.specs.Steps.KeysByField.{differing, key_added}
-use Rattle.clip_terms.specs.Steps.Places.{IsPlaced, EndsWith}
+use Rattle.clip_terms.specs.Steps.Places.{IsPlaced}
 use Rattle.clip_terms.specs.Steps.WordKeys.{keys_in}
 use Rattle.clip_terms.proofs.PlacedWords.{Place, counted, words_at, keys_more, ends_more, position_within, placed_more}
 use Rattle.clip_terms.proofs.asking.place_words.Goals as goal
@@ -28,7 +28,7 @@ add_differing-requires c = c.loop-posting.invariant.kept
 pub overflow_sub-len : goal.overflow_sub-len
 overflow_sub-len c =
     let name = arc_str_bytes c.args.keys.now.field.now in
-    let last = option_map (λ w. w.now) c.loop-posting.last in
+    let last = option_map (λ p. p.now.0) c.loop-posting.last in
     let old = keys_in c.loop-posting.keys in
     let new = keys_in c.add_differing.new.keys in
     let x = c.posting-item.result in
@@ -53,7 +53,7 @@ index_mut-requires c =
 pub loop-posting-preserved : goal.loop-posting-preserved
 loop-posting-preserved c =
     let name = arc_str_bytes c.args.keys.now.field.now in
-    let last = option_map (λ w. w.now) c.loop-posting.last in
+    let last = option_map (λ p. p.now.0) c.loop-posting.last in
     let old = keys_in c.loop-posting.keys in
     let new = keys_in c.add_differing.new.keys in
     let places = c.loop-posting.places.items in
@@ -63,7 +63,6 @@ loop-posting-preserved c =
     let lt = c.loop-posting-test.true in
     let is = c.posting-item.is in
     let before = c.loop-posting.invariant in
-    let word : c.as_str.result.now ≡ x.0 = c.as_str.ensures.value ∙ c.word.ensures in
     let grown : new ≡ old ++ key_added name last x.0 =
     c.in_ok-add_differing.ensures.added
     ∙ ap (λ (f : Bor (ArcStr Global)). old ++ key_added (arc_str_bytes f.now) last x.0) before.field in
@@ -71,10 +70,8 @@ loop-posting-preserved c =
     record {
       field = c.in_ok-add_differing.ensures.field ∙ before.field;
       kept = c.in_ok-add_differing.ensures.kept;
-      keys = ap (λ (v : List ℕ). new ++ map (Word name) (differing (Some v) (words_at (drop (i + 1) ps)))) word
-          ∙ keys_more name last old new _ ps i x lt is grown before.keys;
-      last = subst (λ (v : List ℕ). EndsWith name (Some v) new) (sym word)
-          (ends_more name x.0 last old new before.last grown);
+      keys = keys_more name last old new _ ps i x lt is grown before.keys;
+      last = ends_more name x.0 last old new before.last grown;
       long = length-set places _ _ ∙ before.long;
       placed =
           subst (λ (n : ℕ). All (IsPlaced name new (set places n (c.len.result - 1))) (take (i + 1) ps))
@@ -93,7 +90,7 @@ pub returns-clause-keys : goal.returns-clause-keys
 returns-clause-keys c =
     let name = arc_str_bytes c.args.keys.now.field.now in
     let new = keys_in c.loop-posting.keys in
-    let last = option_map (λ w. w.now) c.loop-posting.last in
+    let last = option_map (λ p. p.now.0) c.loop-posting.last in
     sym (append-nil new)
     ∙ ap (λ (ps : List Place). new ++ map (Word name) (differing last (words_at ps)))
     (sym (drop_all c.loop-posting.posting-index c.args.postings.now c.loop-posting-test.false))

@@ -12,10 +12,10 @@ invariant-loop-posting l = record {
   kept : AreKept l.keys;
   keys : keys_in l.keys
       ++ map (Word (arc_str_bytes l.fn.keys.field.now))
-      (differing (option_map (λ w. w.now) l.last) (map (λ p. p.0) (drop l.posting-index l.postings)))
+      (differing (option_map (λ p. p.now.0) l.last) (map (λ p. p.0) (drop l.posting-index l.postings)))
       ≡ keys_in l.fn.keys
       ++ map (Word (arc_str_bytes l.fn.keys.field.now)) (differing None (map (λ p. p.0) l.postings));
-  last : EndsWith (arc_str_bytes l.fn.keys.field.now) (option_map (λ w. w.now) l.last) (keys_in l.keys);
+  last : EndsWith (arc_str_bytes l.fn.keys.field.now) (option_map (λ p. p.now.0) l.last) (keys_in l.keys);
   long : length l.places.items ≡ length l.fn.places.items;
   placed : All (IsPlaced (arc_str_bytes l.fn.keys.field.now) (keys_in l.keys) l.places.items)
       (take l.posting-index l.postings);

@@ -21,3 +21,6 @@ returns-clause-last g c =
 -- proved by search alone: it stands here so that a wrong body is refused at once
 pub commit-answer-requires-clause-desk : goal.commit-answer-requires-clause-desk
 commit-answer-requires-clause-desk g c = search rules
+
+pub returns-clause-legal : goal.returns-clause-legal
+returns-clause-legal g c = search rules

@@ -18,3 +18,6 @@ put-requires-clause-purged g c =
     subst (IsPurgedAt c.purge.new.self) count
     (subst (λ (state : RegistryState). IsPurgedAt state (length s.registrar.history)) (sym is)
     (purged_here s.registrar))
+
+pub returns-clause-told : goal.returns-clause-told
+returns-clause-told g c = search rules

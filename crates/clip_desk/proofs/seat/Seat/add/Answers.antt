@@ -1,4 +1,4 @@
-use Rattle.std.proofs.Common.{◌∙◌, [], ◌∷◌, length, ap, sym, arith, length-append}
+use Rattle.std.proofs.Common.{◌∙◌, [], ◌∷◌, length, ap, sym, arith, length-append, rules}
 use Rattle.std.proofs.lemmas.List.{length-take-le}
 use Rattle.clip_model.proofs.Counting.{own_length}
 use Rattle.clip_model.specs.History.{own}
@@ -25,3 +25,6 @@ follow-requires-clause-counted g c =
     let there = ap (λ v. length (own history v.caller)) c.self.view_is in
     let long = ap length o.1 ∙ length-append c.args.seen_history.now.seen.log (o.0 ∷ []) in
     omega (arith, m, is, there, long, own_length history s.right.caller, c.requires.own)
+
+pub returns-then-not-follow-clause-seat : goal.returns-then-not-follow-clause-seat
+returns-then-not-follow-clause-seat g c = search rules

@@ -1,4 +1,4 @@
-use Rattle.std.proofs.Common.{◌≡◌, ◌∙◌, ◌≤◌, ap, arith}
+use Rattle.std.proofs.Common.{◌≡◌, ◌∙◌, ◌≤◌, ap, arith, rules}
 use Rattle.left_right.specs.Sides.{view}
 use Rattle.clip_desk.specs.Ends.{seen_keeps}
 use Rattle.clip_desk.proofs.Purges.{purged_before}
@@ -32,3 +32,6 @@ returns-clause-purged g c =
     let mine = ap (λ v. v.purged_at) c.self.view_is in
     let kept : c.args.self.now.purged_at ≤ shown.purged_at = omega (arith, mine, c.if-purged_at-self.false) in
     purged_before shown.view c.args.self.now.purged_at shown.purged_at kept c.shown.invariant.2
+
+pub returns-then-there-made-clause-later : goal.returns-then-there-made-clause-later
+returns-then-there-made-clause-later g c = search rules
