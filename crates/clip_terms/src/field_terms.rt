@@ -229,10 +229,11 @@ impl<'a> FieldTerms<'a> {
         }
     }
 
-    /// For each of the first of these leads, where a word of that lead likely is. Cost: that of binary searches,
-    /// which wait for memory together.
-    pub(crate) fn likely_places(&self, leads: &[u64]) -> [usize; SIDE_BY_SIDE] {
-        likely_places(self.leads, &self.words, leads)
+    /// For each of the first of these leads, where a word of that lead likely is, if it is not before a place. Cost: that
+    /// of binary searches, which wait for memory together.
+    pub(crate) fn likely_places(&self, from: usize, leads: &[u64]) -> [usize; SIDE_BY_SIDE] {
+        let part = self.words.start.max(from)..self.words.end;
+        likely_places(self.leads, &part, leads)
     }
 
     /// The number of a front of the field, `None` where it is no term. Takes no memory. Cost: a binary search among the

@@ -13,6 +13,7 @@ pub(crate) const SIDE_BY_SIDE: usize = 32;
 pub(crate) struct LikelyPlaces {
     places: [usize; SIDE_BY_SIDE],
     used: usize,
+    from: usize,
 }
 
 impl LikelyPlaces {
@@ -21,18 +22,22 @@ impl LikelyPlaces {
         LikelyPlaces {
             places: [0; SIDE_BY_SIDE],
             used: SIDE_BY_SIDE,
+            from: 0,
         }
     }
 
     /// Forgets the places that are left.
     pub(crate) fn clear(&mut self) {
         self.used = SIDE_BY_SIDE;
+        self.from = 0;
     }
 
-    /// The next place; where none is left, those of the words of these leads come next.
+    /// The next place; where none is left, those of the words of these leads come next, which are searched for from the
+    /// last place on, since words and terms rise.
     pub(crate) fn next(&mut self, of_field: &FieldTerms<'_>, leads: &[u64]) -> usize {
         if self.used >= SIDE_BY_SIDE {
-            self.places = of_field.likely_places(leads);
+            self.places = of_field.likely_places(self.from, leads);
+            self.from = self.places[SIDE_BY_SIDE - 1];
             self.used = 0;
         }
         let place = self.places[self.used];

@@ -21,11 +21,18 @@ fn is_word_mark(byte: u8) -> bool
     matches!(byte, b'.' | b'\'' | b':' | b',' | b';')
 }
 
-/// Whether a character of ASCII stands between words, and never within one.
+/// Whether a byte is an ASCII letter or digit. Letters are looked for first, since most are.
+fn is_letter(byte: u8) -> bool
+    ensures { result ≡ is_ascii_alphanumeric byte }
+{
+    byte.is_ascii_alphabetic() || byte.is_ascii_digit()
+}
+
+/// Whether a character of ASCII stands between words, and never within one. A space is looked for first, since most are.
 fn is_separator(byte: u8) -> bool
     ensures { result ≡ is_separator byte }
 {
-    byte < 128 && !(byte.is_ascii_alphanumeric() || is_word_mark(byte) || byte == b'_')
+    byte == b' ' || byte < 128 && !(is_letter(byte) || is_word_mark(byte) || byte == b'_')
 }
 
 /// How many separators a text begins with.
@@ -47,7 +54,7 @@ fn letters(bytes: &[u8]) -> usize
     ensures all { list_all is_ascii_alphanumeric (take result bytes.now) ≡ true }
 {
     for (at, byte) in bytes.iter().enumerate() {
-        if !byte.is_ascii_alphanumeric() {
+        if !is_letter(*byte) {
             return at;
         }
     }
