@@ -1,5 +1,5 @@
 -- What is due to articles that are shared out.
-use Rattle.std.proofs.Common.{◌≡◌, ℕ, zero, suc, ◌+◌, ◌<◌, List, [], ◌∷◌, ◌++◌, length, map, All, get_or, refl}
+use Rattle.std.proofs.Common.{◌≡◌, ℕ, zero, suc, ◌<◌, List, [], ◌∷◌, ◌++◌, length, map, get_or, refl}
 use Rattle.std.proofs.Common.{sym, ap, subst, ◌∙◌, arith, Bool, true, false, if◌then◌else◌}
 use Rattle.std.specs.Prelude.{Some, Result}
 use Rattle.std.specs.List.{slice_get}
@@ -13,7 +13,6 @@ use Rattle.clip_registry.specs.RegistryState.{RegistryState}
 use Rattle.clip_front.specs.Giving.{GivesArticle, GivesDue, Giving}
 use Rattle.clip_front.specs.declared.settings.Settings.{Settings}
 use Rattle.clip_run.specs.declared.batch.Pending.{Pending}
-use Rattle.clip_run.specs.declared.batch.Pending.TheVariants as pending
 use Rattle.clip_run.specs.declared.group.Answer.{Answer}
 use Rattle.std.proofs.lemmas.List.Elements.{All-append}
 use Rattle.clip_run.specs.declared.helpers.Helper.{Helper}

@@ -12,7 +12,6 @@ use Rattle.clip_run.specs.declared.batch.Pending.{Pending}
 use Rattle.clip_run.specs.declared.batch.Pending.TheVariants as pending
 use Rattle.clip_run.specs.declared.giver.Turn.{Turn}
 use Rattle.clip_run.specs.declared.group.Answer.{Answer}
-use Rattle.clip_run.specs.declared.helpers.Asked.{Asked}
 use Rattle.clip_run.specs.declared.helpers.Helper.{Helper}
 
 -- the alerts of each article of a batch, at its view

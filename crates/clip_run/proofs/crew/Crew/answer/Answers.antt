@@ -1,4 +1,4 @@
-use Rattle.std.proofs.Common.{[], inl, refl}
+use Rattle.std.proofs.Common.{[], inl}
 use Rattle.std.proofs.lemmas.Result.{on_err_weaker, on_ok_weaker}
 use Rattle.clip_stream.proofs.Faults.{on_err}
 use Rattle.clip_stream.proofs.Flows.{handed_none}

@@ -1,4 +1,4 @@
-use Rattle.std.proofs.Common.{◌+◌, ◌++◌, [], List, ℕ, map, refl, sym, ap, ◌∙◌, subst, arith, append-nil}
+use Rattle.std.proofs.Common.{◌++◌, [], List, ℕ, map, refl, sym, ap, ◌∙◌, subst, arith, append-nil}
 use Rattle.std.proofs.lemmas.Result.{on_err_weaker, on_ok_weaker}
 use Rattle.clip_stream.specs.Device.{AppendsFront, HandsOver}
 use Rattle.clip_stream.proofs.Faults.{on_err, on_ok}
