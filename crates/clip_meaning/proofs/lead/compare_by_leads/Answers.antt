@@ -1,4 +1,4 @@
-use Rattle.std.proofs.Common.{◌∙◌}
+use Rattle.std.proofs.Common.{◌∙◌, rules}
 use Rattle.clip_meaning.proofs.Leads.{leads_settle, leads_tie}
 use Rattle.clip_meaning.proofs.lead.compare_by_leads.Goals as goal
 
@@ -8,3 +8,6 @@ returns-then-a_lead-b_lead c = c.cmp.ensures ∙ leads_settle _ _ _ _ c.requires
 pub returns-then-a-le8 : goal.returns-then-a-le8
 returns-then-a-le8 c = leads_tie _ _ _ _ c.requires.a c.requires.b c.if-a_lead-b_lead.false c.if-a-b.true
     c.if-a-le8.true
+
+pub returns : goal.returns
+returns c = search rules
