@@ -1,19 +1,16 @@
 -- What is gathered of the parts of a history is what is found at the whole.
 use Rattle.std.proofs.Common.{◌≡◌, ℕ, zero, suc, ◌<◌, ◌++◌, List, [], ◌∷◌, map, length, refl, sym, ap, ap₂, ◌∙◌, arith}
-use Rattle.std.specs.Prelude.{Bool, flat_map}
+use Rattle.std.specs.Prelude.{Bool}
 use Rattle.std.proofs.lemmas.List.{length-map}
 use Rattle.std.proofs.lemmas.List.Folds.{flat_map-map}
-use Rattle.clip_meaning.specs.Article.{ArticleValue}
-use Rattle.clip_model.specs.History.{History}
 use Rattle.clip_model.specs.Alerts.{Alert, alerts}
-use Rattle.clip_model.specs.Shards.{Division, PartsAreMerged, shard}
-use Rattle.clip_gather.specs.Gather.{AreOfShards, given, query_of}
+use Rattle.clip_model.specs.Shards.{PartsAreMerged, shard}
+use Rattle.clip_gather.specs.Gather.{given, query_of}
 use Rattle.clip_gather.specs.Merged.{NeverFalls, NoneFalls, merged_all}
 use Rattle.clip_gather.proofs.Maps.{merged_all_map}
 use Rattle.clip_gather.proofs.Numbered.{gathered, never_fall, whole}
-use Rattle.clip_engine.specs.Found.{alert_bytes, alerts_bytes, number_bytes}
-use Rattle.clip_engine.specs.Gathered.{AreWhole, TellShards, all_bytes, asked_in, id_of, shown, told_bytes, told_in}
-use Rattle.clip_engine.specs.declared.parts.Part.{Part}
+use Rattle.clip_engine.specs.Found.{alerts_bytes, number_bytes}
+use Rattle.clip_engine.specs.Gathered.{AreWhole, all_bytes, asked_in, id_of, shown, told_bytes, told_in}
 
 -- what is given from 0 up to n
 abbrev given_below : {A : Type 0} → ℕ → (ℕ → List A) → List (List A)
