@@ -1,6 +1,6 @@
 -- A query's keys cover the articles of which it holds.
 use Rattle.std.proofs.Common.{◌≡◌, ℕ, Bool, true, false, ◌&&◌, ◌||◌, cond, ltb, List, [], ◌∷◌, ◌++◌, map, drop, length}
-use Rattle.std.proofs.Common.{fold, Option, None, Some, unwrap_or, flat_map, refl, sym, ap, ◌∙◌, subst}
+use Rattle.std.proofs.Common.{fold, Some, unwrap_or, flat_map, refl, sym, ap, ◌∙◌, subst}
 use Rattle.std.specs.FinMap as finite
 use Rattle.std.specs.List.{list_any, list_all, starts_with}
 use Rattle.std.specs.Str.{bytes_eq}
