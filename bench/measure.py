@@ -3,6 +3,7 @@
 from __future__ import annotations
 
 import json
+import os
 import statistics
 from dataclasses import dataclass, field
 from typing import Iterator, Sequence
@@ -65,6 +66,17 @@ class Result:
     def bytes_per_query(self) -> float:
         """Growth of the process by registering, a query."""
         return self.grown_bytes / self.size.queries
+
+
+def machine() -> str:
+    """What the figures were taken on, and how busy it is."""
+    model = "unknown processor"
+    with open("/proc/cpuinfo") as file:
+        for line in file:
+            if line.startswith("model name"):
+                model = line.split(":", 1)[1].strip()
+                break
+    return f"{os.cpu_count()} cores, {model}; load {os.getloadavg()[0]:.1f}"
 
 
 def alerts_of(replies: Sequence[bytes]) -> Iterator[tuple[str, list[str]]]:

@@ -18,6 +18,8 @@ LEFT, RIGHT, TOP, BOTTOM = 84, 700, 66, 376
 # Between the frame and the ends of the axes.
 INSET_ACROSS, INSET_DOWN = 40, 28
 MARGIN = 24
+# What a number above a point takes.
+ROOM_ABOVE = 32
 
 # The marks of the curves in turn: a disc, a square, a triangle, a diamond.
 MARKS = ("M-5 0a5 5 0 1 0 10 0a5 5 0 1 0-10 0", "M-4.5-4.5h9v9h-9z", "M0-6L6 5H-6z", "M0-6.5L6.5 0L0 6.5L-6.5 0z")
@@ -175,13 +177,15 @@ def mark(kind: int, across: float, down: float) -> str:
 
 
 def number(figure: Figure, figures: list[Figure], plane: Plane) -> str:
-    """The number at a point: below the least of those across from it, above the greatest, to the right of others."""
+    """The number at a point: below the least of those across from it, above others where there is room, or to the
+    right."""
     words = plain(figure.number)
     across, down = plane.across.place(figure.at), plane.up.place(figure.number)
     rivals = [other.number for other in figures if other.at == figure.at]
     if figure.number <= min(rivals):
         return text(across, down + 22, words, "value", "middle")
-    if figure.number >= max(rivals):
+    greater = [plane.up.place(rival) for rival in rivals if rival > figure.number]
+    if not greater or down - max(greater) >= ROOM_ABOVE:
         return text(across, down - 12, words, "value", "middle")
     return text(across + 11, down + 9, words, "value")
 

@@ -15,6 +15,7 @@ from pathlib import Path
 from random import Random
 from typing import Any, Callable, Sequence
 
+from .grid_runs import free_port
 from .judge import SERVICE, folder, need
 from .keep_runs import command as keep_of
 from .processes import ENDED, PATIENCE_SECONDS
@@ -99,9 +100,7 @@ class Mosquitto:
                  words: Sequence[str] = ()) -> None:
         """A broker with further settings, and words by which its clients are let in."""
         self._config, self._words = into / "mosquitto.conf", words
-        with socket.socket() as taken:
-            taken.bind(("127.0.0.1", 0))
-            self.port = str(taken.getsockname()[1])
+        self.port = str(free_port())
         self._config.write_text("\n".join((
             f"listener {self.port} 127.0.0.1", "persistence true", f"persistence_location {into}/", "log_type none",
             f"user {getpass.getuser()}", *settings, "")))

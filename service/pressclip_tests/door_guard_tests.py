@@ -281,7 +281,7 @@ def it_stands_behind_nginx() -> None:
         path.chmod(0o600)
         with Door("--tokens", str(path)) as door:
             port = free_port()
-            server = shipped_server().replace("443", str(port)).replace("8080", str(door.port)).replace(
+            server = shipped_server().replace("443", f"127.0.0.1:{port}").replace("8080", str(door.port)).replace(
                 "/etc/pressclip/tls", name).replace("alerts.example", "localhost")
             (Path(name) / "nginx.conf").write_text(NGINX.format(folder=name, server=server))
             proxy = subprocess.Popen([nginx(), "-e", "stderr", "-c", f"{name}/nginx.conf"], stderr=subprocess.DEVNULL)

@@ -34,7 +34,7 @@ ARTICLES = (
 
 
 def write(browser: Browser, text: str) -> None:
-    """Writes a query in place of the one that is there."""
+    """Writes a query in place of the one that is there. What is said of it then moves all that stands below."""
     browser.click(QUERY)
     browser.press_control("a")
     if text:
@@ -136,6 +136,7 @@ def queries_are_saved_found_changed_and_deleted(browser: Browser, door: Door) ->
         door.put(f"other-{number:03}", "coffee")
     browser.open(door.address)
     write(browser, "+tea pric*")
+    browser.has("#remarks", "pric*")
     browser.click("#save-query")
     browser.shows("#said", "Give it a name first.")
     browser.type("tea/prices")
@@ -205,12 +206,14 @@ def refusals_are_shown(browser: Browser, door: Door) -> None:
     """Of a text that is no query, and of a name that is too long or has no address."""
     browser.open(door.address)
     write(browser, "tea AND")
+    browser.shows("#fault", MISSING)
     browser.click("#query-id")
     browser.type("q1")
     browser.press("enter")
     browser.until(lambda: "bad" in (browser.find("#said").get_attribute("class") or "").split(), "no refusal")
     browser.has("#said", "Something is missing at the end")
     write(browser, "tea")
+    browser.has("#sentence", '"tea"')
     browser.click("#query-id")
     browser.press_control("a")
     browser.type("..")

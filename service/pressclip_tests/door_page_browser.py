@@ -18,6 +18,7 @@ from selenium.webdriver.common.keys import Keys
 from selenium.webdriver.remote.webelement import WebElement
 from selenium.webdriver.support.select import Select
 
+from .grid_runs import free_port
 from .judge import need
 
 CHROMIUM, DRIVER = "/usr/bin/chromium", "/usr/bin/chromedriver"
@@ -46,7 +47,7 @@ class Browser:
             options.add_argument(word)
         options.set_capability("goog:loggingPrefs", {"browser": "ALL"})
         self.shots = shots
-        self.driver = Chrome(service=Service(DRIVER), options=options)
+        self.driver = Chrome(service=Service(DRIVER, port=free_port()), options=options)
 
     def close(self) -> None:
         """Ends it."""

@@ -9,6 +9,7 @@ from pressclip_service.engine import command_of
 
 from .door_page_acts import ARTICLES, QUERY, TEXT, write
 from .door_runs import Door
+from .grid_runs import free_port
 from .judge import folder, need
 
 if TYPE_CHECKING:
@@ -115,7 +116,7 @@ def the_page_goes_on_where_the_door_was_ended(browser: Browser) -> None:
     """It says so, hears the alerts of the next door at the same address, and tells that some may be missing."""
     with folder() as name:
         journal = str(Path(name) / "j")
-        with Door("--journal", journal) as door:
+        with Door("--journal", journal, port=free_port()) as door:
             door.put("tea", "tea")
             browser.open(door.address)
             browser.shows("#status-text", "Live")
@@ -166,6 +167,7 @@ def the_page_asks_for_a_token(browser: Browser) -> None:
             browser.press("enter")
             browser.shows("#status-text", "Live")
             write(browser, "tea")
+            browser.has("#sentence", '"tea"')
             browser.click("#query-id")
             browser.type("q1")
             browser.press("enter")

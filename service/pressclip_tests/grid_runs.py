@@ -24,14 +24,19 @@ KINDS = ("worker", "engine", "gatherer", "tidy", "client", "redis")
 TWO_AT_ONCE = 0.2
 REDIS_SECONDS = 30.0
 ROLE_SECONDS = 300.0
+# What holds the ports that were given out.
+_HELD: list[socket.socket] = []
 
 
 def free_port() -> int:
-    """A port of this machine that nobody uses."""
-    with socket.socket() as found:
-        found.bind(("127.0.0.1", 0))
-        port: int = found.getsockname()[1]
-        return port
+    """A port of 127.0.0.1 for this process's tests, where a server may listen that sets SO_REUSEADDR, as all here do.
+    It is held to the end of the process: the system gives it to nobody else, also while no server is there."""
+    held = socket.socket()
+    held.setsockopt(socket.SOL_SOCKET, socket.SO_REUSEADDR, 1)
+    held.bind(("127.0.0.1", 0))
+    _HELD.append(held)
+    port: int = held.getsockname()[1]
+    return port
 
 
 class Redis:

@@ -112,11 +112,9 @@ def a_grid_that_was_never_made_is_told() -> None:
         client = Spoken([*grid.command("--grid", "third", "submit"), "--", *grid.engine])
         wait_until(lambda: "waiting for the grid third to be made" in client.told(), client.told)
         grid.run("--grid", "third", "init", "--shards", "1")
-        worker = Role(grid, "--grid", "third", "worker", "--shard", "0", "--replica", "0")
+        grid.workers.append(Role(grid, "--grid", "third", "worker", "--shard", "0", "--replica", "0"))
         answers(client, COUNT, b'{"count":0,"line":1}')
         client.close()
-        worker.kill()
-        worker.told.close()
 
 
 def standings(grid: Grid) -> dict[str, dict[str, object]]:

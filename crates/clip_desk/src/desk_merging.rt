@@ -7,7 +7,7 @@ use crate::refused::Refused;
 use crate::seat::Seat;
 use crate::update_listener::UpdateListener;
 use clip_indexed::Index;
-use clip_registry::{Installed, MergeJob, MergeTurn, Merged};
+use clip_registry::{Installed, MergeJob, MergeTurn, Merged, Payment};
 use clip_words::NoMemory;
 use crossbeam_channel::Receiver;
 use std::sync::{MutexGuard, Wait};
@@ -17,19 +17,49 @@ use std::sync::{MutexGuard, Wait};
 pub enum Nudge {
     /// There may be segments to merge.
     Merge,
+    /// So many articles more were matched: once they have paid for it, all segments become one.
+    Matched(usize),
     /// No more nudges come.
     Stop,
 }
 
-/// Takes the nudges that stand in a channel, up to the first `Stop`, and says whether there was one. It costs a step
-/// for each of them.
-fn take_standing<R: Wait>(rt: &R, nudges: &Receiver<Nudge>) -> bool {
-    for _ in 0..nudges.len() {
-        if let Ok(Nudge::Stop) = nudges.try_recv(rt) {
-            return true;
+/// What nudges ask for together.
+#[derive(Clone, Copy)]
+struct Asked {
+    merges: bool,
+    matched: usize,
+    stops: bool,
+}
+
+impl Asked {
+    /// Adds what a nudge asks for.
+    fn add(&mut self, nudge: Nudge) {
+        match nudge {
+            Nudge::Merge => self.merges = true,
+            Nudge::Matched(articles) => self.matched = self.matched.saturating_add(articles),
+            Nudge::Stop => self.stops = true,
         }
     }
-    false
+}
+
+/// Takes a nudge and those that stand in a channel, up to the first `Stop`, and gives what they ask for. It costs a
+/// step for each of them.
+fn take_standing<R: Wait>(rt: &R, first: Nudge, nudges: &Receiver<Nudge>) -> Asked {
+    let mut asked = Asked {
+        merges: false,
+        matched: 0,
+        stops: false,
+    };
+    asked.add(first);
+    for _ in 0..nudges.len() {
+        if asked.stops {
+            return asked;
+        }
+        if let Ok(nudge) = nudges.try_recv(rt) {
+            asked.add(nudge);
+        }
+    }
+    asked
 }
 
 impl<N: DeskName, I: Index, L: UpdateListener> Desk<N, I, L> {
@@ -58,10 +88,18 @@ impl<N: DeskName, I: Index, L: UpdateListener> Desk<N, I, L> {
         Ok(())
     }
 
-    /// A job over the segments that a merge turn makes one, where there are some.
-    fn begin_turn<R: Wait>(&self, rt: &R) -> Result<Option<MergeJob<I>>, NoMemory> {
+    /// Whether so many matched articles more have paid for one segment in the place of all.
+    fn is_merge_due<R: Wait>(&self, rt: &R, payment: &mut Payment, matched: usize) -> bool {
         let guard = self.locked.lock(rt);
-        let job = guard.begin_turn();
+        let is_due = guard.is_merge_due(payment, matched);
+        MutexGuard::unlock(guard);
+        is_due
+    }
+
+    /// A job over the segments that a merge turn makes one, where there are some.
+    fn begin_turn<R: Wait>(&self, rt: &R, to_one: bool) -> Result<Option<MergeJob<I>>, NoMemory> {
+        let guard = self.locked.lock(rt);
+        let job = guard.begin_turn(to_one);
         MutexGuard::unlock(guard);
         job
     }
@@ -74,6 +112,18 @@ impl<N: DeskName, I: Index, L: UpdateListener> Desk<N, I, L> {
         answer
     }
 
+    /// Takes a merge turn, to one segment or not.
+    fn take_turn<R: Wait>(&self, rt: &R, to_one: bool) -> Result<MergeTurn, NoMemory> {
+        let Some(job) = self.begin_turn(rt, to_one)? else {
+            return Ok(MergeTurn::Nothing);
+        };
+        let merged = job.run()?;
+        match self.install(rt, merged)? {
+            Installed::Done => Ok(MergeTurn::Installed),
+            Installed::Stale => Ok(MergeTurn::Stale),
+        }
+    }
+
     /// Takes a merge turn: merges the oldest four neighbouring segments of one level, or, where there are no such four,
     /// all segments from the oldest on behind which one has a higher level, and publishes that. What is registered
     /// stays, and so does the history: commits of other threads while it merges are kept. It may find its merge stale
@@ -84,41 +134,45 @@ impl<N: DeskName, I: Index, L: UpdateListener> Desk<N, I, L> {
     /// where there are segments to merge that of `MergeJob::run` and of `Registrar::install`. Commits go on while the
     /// job is run.
     pub fn merge_once<R: Wait>(&self, rt: &R) -> Result<MergeTurn, NoMemory> {
-        let Some(job) = self.begin_turn(rt)? else {
-            return Ok(MergeTurn::Nothing);
-        };
-        let merged = job.run()?;
-        match self.install(rt, merged)? {
-            Installed::Done => Ok(MergeTurn::Installed),
-            Installed::Stale => Ok(MergeTurn::Stale),
-        }
+        self.take_turn(rt, false)
     }
 
-    /// Takes merge turns until there is nothing to merge, or a merge is stale or is refused memory; then a later call
-    /// may merge what is left. It waits as `merge_once` does, and costs that for each turn.
-    pub fn merge_all<R: Wait>(&self, rt: &R) {
+    /// Takes merge turns, to one segment or not, until there is nothing to merge, or a merge is stale or is refused
+    /// memory; then a later call may merge what is left. It waits as `merge_once` does, and costs that for each turn.
+    pub fn merge_all<R: Wait>(&self, rt: &R, to_one: bool) {
         for _ in rt.forever() {
-            let Ok(MergeTurn::Installed) = self.merge_once(rt) else {
+            let Ok(MergeTurn::Installed) = self.take_turn(rt, to_one) else {
                 return;
             };
         }
     }
 
     /// Merges at each nudge, until a `Stop` comes or the channel is closed. It takes all nudges that stand in the
-    /// channel at once, and then merges until nothing is left to merge, so one `Merge` does for many. Where a merge is
-    /// stale, or is refused for want of memory, nothing is changed, and the next nudge merges again. A `Stop` ends it
-    /// after the merges that stood before it.
+    /// channel at once, and then merges until nothing is left to merge, so one `Merge` does for many. At a `Matched` it
+    /// merges once its articles and those before have paid for one segment in the place of all, which these become then
+    /// (`Payment::is_due`), but not where a `Stop` stands behind it. Where a merge is stale, or is refused for want of
+    /// memory, nothing is changed, and the next nudge merges again. A `Stop` ends it after the merges that stood before
+    /// it.
     ///
     /// It waits for nudges, for other callers' commits, and for readers that look. Each merge costs that of
-    /// `merge_once`.
+    /// `merge_once`, and each `Matched` a step for each segment.
     pub fn serve_merges<R: Wait>(&self, rt: &R, nudges: &Receiver<Nudge>) {
+        let mut payment = Payment::towards(usize::MAX);
         for _ in rt.forever() {
-            let Ok(Nudge::Merge) = nudges.recv(rt) else {
+            let Ok(first) = nudges.recv(rt) else {
                 return;
             };
-            let stops = take_standing(rt, nudges);
-            self.merge_all(rt);
-            if stops {
+            if first == Nudge::Stop {
+                return;
+            }
+            let asked = take_standing(rt, first, nudges);
+            let to_one = !asked.stops
+                && asked.matched > 0
+                && self.is_merge_due(rt, &mut payment, asked.matched);
+            if asked.merges || to_one {
+                self.merge_all(rt, to_one);
+            }
+            if asked.stops {
                 return;
             }
         }

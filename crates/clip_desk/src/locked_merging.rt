@@ -1,6 +1,7 @@
 //! Merges and purges of what the lock keeps: other segments, and the same history.
-ghost use Rattle.std.specs.Prelude.{◌≡◌, ◌+◌, ◌≤◌, ℕ, length, Ok, None, IfOk, IfSome, OnOk, OnErr};
+ghost use Rattle.std.specs.Prelude.{◌≡◌, ◌+◌, ◌≤◌, ℕ, length, true, Ok, None, IfOk, IfSome, OnOk, OnErr};
 ghost use Rattle.clip_registry.specs.Plan.{AreFew, IsRun};
+ghost use Rattle.clip_registry.specs.Price.{HavePaid};
 ghost use Rattle.clip_registry.specs.Merging.{IsInstalled, IsStale, IsTurnBegun, purged};
 ghost use Rattle.clip_desk.specs.Purges.{IsPurgedAt};
 ghost use Rattle.clip_desk.specs.Updates.{AreTold, Purged};
@@ -10,7 +11,7 @@ use crate::locked::{DeskName, Locked};
 use crate::seat::Seat;
 use crate::update_listener::UpdateListener;
 use clip_indexed::Index;
-use clip_registry::{Installed, MergeJob, Merged, Registrar};
+use clip_registry::{Installed, MergeJob, Merged, Payment, Registrar};
 use clip_words::NoMemory;
 use std::sync::Wait;
 
@@ -65,16 +66,26 @@ impl<N: DeskName, I: Index, L: UpdateListener> Locked<N, I, L> {
         Ok(())
     }
 
-    /// Begins the merge of a turn: a job over the oldest four neighbouring segments of one level, or, where there are
-    /// no such four, over all segments from the oldest on behind which one has a higher level. `None` where there is
-    /// none either; then segments are few: three at most for each level up to that of all their entries together.
-    /// `NoMemory` where an allocation failed. It costs that of `Registrar::begin_turn`.
-    pub fn begin_turn(&self) -> Result<Option<MergeJob<I>>, NoMemory>
-        ensures begun { IfOk result (λ job. IfSome job (IsTurnBegun self.now.registry)) }
+    /// Begins the merge of a turn: a job over all segments where they are to become one, and else over the oldest four
+    /// neighbouring segments of one level, or, where there are no such four, over all from the oldest on behind which
+    /// one has a higher level. `None` where there are no two such segments; then segments are few: three at most for
+    /// each level up to that of all their entries together, and at most one where they are to become one. `NoMemory`
+    /// where an allocation failed. It costs that of `Registrar::begin_turn`.
+    pub fn begin_turn(&self, to_one: bool) -> Result<Option<MergeJob<I>>, NoMemory>
+        ensures begun { IfOk result (λ job. IfSome job (IsTurnBegun to_one self.now.registry)) }
         ensures nothing { result ≡ Ok None → (first : ℕ) → IsRun self.now.registry.segments first → ⊥ }
         ensures few { result ≡ Ok None → AreFew self.now.registry.segments }
+        ensures one { result ≡ Ok None → to_one ≡ true → length self.now.registry.segments ≤ 1 }
     {
-        self.registrar.begin_turn()
+        self.registrar.begin_turn(to_one)
+    }
+
+    /// Takes what so many matched articles pay towards one segment in the place of all, and says whether it is due. It
+    /// takes no memory, and costs that of `Registrar::is_merge_due`.
+    pub fn is_merge_due(&self, payment: &mut Payment, matched: usize) -> bool
+        ensures { HavePaid payment.old payment.new self.now.registry.segments matched result }
+    {
+        self.registrar.is_merge_due(payment, matched)
     }
 
     /// Installs a merge, wherever it was begun, and publishes the registry with it; a stale one changes and publishes

@@ -1,5 +1,5 @@
 -- What a line or a command leaves.
-use Rattle.std.proofs.Common.{◌≡◌, ℕ, List, Result, Ok, Err, OnOk, ap₂, ◌∙◌}
+use Rattle.std.proofs.Common.{◌≡◌, ℕ, List, Result, Ok, Err, OnOk, ap₂, false, ◌∙◌}
 use Rattle.clip_model.specs.History.{History}
 use Rattle.clip_meaning.specs.Article.{ArticleValue}
 use Rattle.clip_protocol.specs.LineMeaning.{Means, matching}
@@ -19,7 +19,7 @@ if_ok (Err e) p = tt
 
 pub accepted_of : {X E : Type 0} (r : Result X E) (old new : EngineIs) (command : Command)
     → OnOk r (history_of new ≡ with_command (history_of old) 1 command)
-    → OnOk r (TakesTurns (state_after old.owned.registrar 1 command) new.owned.registrar)
+    → OnOk r (TakesTurns false (state_after old.owned.registrar 1 command) new.owned.registrar)
     → OnOk r (OnOk new.owned.merges (AreFew new.owned.registrar.segments)) → new.lines ≡ old.lines
     → new.hits ≡ old.hits → OnOk r (Accepts old new command)
 accepted_of (Ok x) old new command history turns few lines hits = record {

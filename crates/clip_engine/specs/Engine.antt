@@ -52,7 +52,7 @@ fresh hits = record { owned = record { registrar = beginning false; merges = Ok 
 -- after them. The count of lines stays.
 pub record Accepts (old new : EngineIs) (command : Command) : Type 0 where
   pub history : history_of new ≡ with_command (history_of old) 1 command
-  pub turns : TakesTurns (state_after old.owned.registrar 1 command) new.owned.registrar
+  pub turns : TakesTurns false (state_after old.owned.registrar 1 command) new.owned.registrar
   pub few : OnOk new.owned.merges (AreFew new.owned.registrar.segments)
   pub lines : new.lines ≡ old.lines
   pub hits : new.hits ≡ old.hits

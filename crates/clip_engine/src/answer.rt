@@ -20,7 +20,7 @@ use clip_meaning::Article;
 use clip_protocol::{Found, articles_of};
 use clip_run::{OwnRegistrar, hits_found};
 use clip_stream::Form;
-use clip_words::{NoMemory, WordPool};
+use clip_words::NoMemory;
 use std::alloc::Global;
 
 /// The alerts of each article, in the order of the articles, all at one view; none are shown already.
@@ -74,7 +74,6 @@ fn match_reply(
 /// Answers the line of this number: the text of its reply, or nothing for a blank line.
 pub(crate) fn answer(
     alloc: Global,
-    pool: &mut WordPool,
     owned: &mut OwnRegistrar,
     form: Form,
     number: u64,
@@ -89,7 +88,7 @@ pub(crate) fn answer(
     match take_line(alloc, owned, &listeners, number, line)? {
         Step::Reply(text) => Ok(text),
         Step::Match(drafts) => {
-            let articles = articles_of(alloc, pool, &drafts)?;
+            let articles = articles_of(alloc, &drafts)?;
             let view = owned.registrar.view()?;
             match_reply(alloc, &view, &mut listeners, form, number, &articles)
         }

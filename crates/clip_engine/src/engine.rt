@@ -30,17 +30,16 @@ use clip_protocol::{ListFault, Listing, Refusal, Unread};
 use clip_run::{OwnRegistrar, hits_found};
 use clip_standing::{Applied, Command, Refused};
 use clip_stream::Form;
-use clip_words::{NoMemory, WordPool, is_id};
+use clip_words::{NoMemory, is_id};
 use std::alloc::Global;
 use std::marker::Model;
 
-/// An engine: a registrar of its own, words of its last articles, how many lines it has answered, and whether its
-/// replies show hits. Contracts see all but the words.
+/// An engine: a registrar of its own, how many lines it has answered, and whether its replies show hits. Contracts see
+/// these.
 #[derive(Drop)]
 pub struct Engine {
     alloc: Global,
     owned: OwnRegistrar,
-    pool: WordPool,
     lines: u64,
     hits: bool,
 }
@@ -67,18 +66,13 @@ pub enum LineFault {
 }
 
 /// Reads an article.
-fn read_article(
-    alloc: Global,
-    pool: &mut WordPool,
-    id: &str,
-    fields: &[(String, String)],
-) -> Result<Article, Unread>
+fn read_article(alloc: Global, id: &str, fields: &[(String, String)]) -> Result<Article, Unread>
     ensures read { IfOk result (λ article. article ≡ article_value id.now (pairs_of fields.now)) }
     ensures kept { OnOk result (fault_of id.now (pairs_of fields.now) ≡ None) }
     ensures refused { IfErr result (λ why. (why ≡ unread.NoMemory) ⊎ ((why ≡ unread.Refused Refusal.Limit)
         × (fault_of id.now (pairs_of fields.now) ≡ None → ⊥))) }
 {
-    match Article::read_with_pool(alloc, pool, id, fields) {
+    match Article::read(alloc, id, fields) {
         Ok(article) => Ok(article),
         Err(ArticleFault::NoMemory) => Err(Unread::NoMemory),
         Err(_) => Err(Unread::Refused(Refusal::Limit)),
@@ -116,7 +110,6 @@ impl Engine {
         Engine {
             alloc,
             owned: OwnRegistrar::new(alloc),
-            pool: WordPool::new(alloc),
             lines: 0,
             hits,
         }
@@ -147,14 +140,7 @@ impl Engine {
         let Ok(before) = self.owned.copy() else {
             return Err(LineFault::NoMemory);
         };
-        match answer(
-            self.alloc,
-            &mut self.pool,
-            &mut self.owned,
-            form,
-            number,
-            line,
-        ) {
+        match answer(self.alloc, &mut self.owned, form, number, line) {
             Ok(text) => {
                 self.lines = number;
                 Ok(text)
@@ -282,16 +268,15 @@ impl Engine {
         self.owned.registrar.purge()
     }
 
-    /// A snapshot: an engine with the same history and the same count of lines, and words of its own. What is changed
-    /// later in one of the two shows in nothing that the other answers. `NoMemory` where the count of the registry's
-    /// holders is at its end. Constant time.
+    /// A snapshot: an engine with the same history and the same count of lines. What is changed later in one of the two
+    /// shows in nothing that the other answers. `NoMemory` where the count of the registry's holders is at its end.
+    /// Constant time.
     pub fn snapshot(&self) -> Result<Engine, NoMemory>
         ensures { IfOk result (λ snapshot. snapshot ≡ self.now) }
     {
         Ok(Engine {
             alloc: self.alloc,
             owned: self.owned.copy()?,
-            pool: WordPool::new(self.alloc),
             lines: self.lines,
             hits: self.hits,
         })
@@ -332,23 +317,18 @@ impl Engine {
     /// first. No listener hears them, and the count of lines stays.
     ///
     /// `Limit` where the id or a field is beyond its limits, the first that `Article::read` refuses; `NoMemory` where
-    /// an allocation failed. Whatever it answers, the engine stays as it is.
+    /// an allocation failed.
     ///
-    /// Cost: that of `Article::read_with_pool`, with the words of the engine's last articles, and of
-    /// `clip_match::entries_due`; and a copy of the ids, and of the hits where they are shown. No alert is made.
+    /// Cost: that of `Article::read` and of `clip_match::entries_due`; and a copy of the ids, and of the hits where
+    /// they are shown. No alert is made.
     #[tactic(auto, using(crate::proofs::Asking::found_at))]
-    pub fn match_article(
-        &mut self,
-        id: &str,
-        fields: &[(String, String)],
-    ) -> Result<Vec<u8>, Unread>
-        ensures found { IfOk result (λ bytes. IsFoundAt self.old id.now (pairs_of fields.now) bytes.items) }
+    pub fn match_article(&self, id: &str, fields: &[(String, String)]) -> Result<Vec<u8>, Unread>
+        ensures found { IfOk result (λ bytes. IsFoundAt self.now id.now (pairs_of fields.now) bytes.items) }
         ensures kept { OnOk result (fault_of id.now (pairs_of fields.now) ≡ None) }
         ensures refused { IfErr result (λ why. (why ≡ unread.NoMemory) ⊎ ((why ≡ unread.Refused Refusal.Limit)
             × (fault_of id.now (pairs_of fields.now) ≡ None → ⊥))) }
-        ensures unchanged { self.new ≡ self.old }
     {
-        let article = read_article(self.alloc, &mut self.pool, id, fields)?;
+        let article = read_article(self.alloc, id, fields)?;
         let view = self.owned.registrar.view()?;
         let hits = hits_found(settings_of(form_of(self.hits)));
         let due = due_at(self.alloc, &view, &article, hits)?;

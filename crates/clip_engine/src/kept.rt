@@ -304,13 +304,12 @@ impl Kept {
 
     /// What is found of an article, as bytes.
     #[tactic(auto, using(crate::proofs::Asking::told_at))]
-    fn found(&mut self, alloc: Global, id: &[u8], fields: &[Field<'_>]) -> Result<Vec<u8>, u32>
-        ensures ok { IfOk result (λ bytes. IsFoundAt self.old.engine id.now (fields_of fields.now) bytes.items) }
+    fn found(&self, alloc: Global, id: &[u8], fields: &[Field<'_>]) -> Result<Vec<u8>, u32>
+        ensures ok { IfOk result (λ bytes. IsFoundAt self.now.engine id.now (fields_of fields.now) bytes.items) }
         ensures is { OnOk result (IsUtf8 id.now × All IsField (fields_of fields.now)
             × (fault_of id.now (fields_of fields.now) ≡ None)) }
         ensures err { IfErr result (λ code. code ≡ 0 → ⊥) }
         ensures why { IfErr result (IsNoArticle id.now (fields_of fields.now)) }
-        ensures unchanged { (self.new.engine ≡ self.old.engine) × (self.new.text ≡ self.old.text) }
     {
         let id = text_of(alloc, id)?;
         let pairs = texts_of(alloc, fields)?;

@@ -3,7 +3,8 @@ mod Groups
 pub mod Leads
 pub mod Marks
 pub mod Numbered
+mod Occurrences
 mod Pairs
-mod Postings
+mod WordOrder
 mod RaisedFlags
 mod Ranges

@@ -15,7 +15,7 @@ use Rattle.clip_meaning.specs.Index.{numbered}
 use Rattle.memchr.specs.Find.{places_from}
 use Rattle.clip_meaning.specs.Steps.Marks.{hit_at, is_up, is_within_run, raised, start_at}
 use Rattle.clip_meaning.proofs.Numbered.{any_filter, rest_dropped}
-use Rattle.clip_meaning.proofs.Postings.{Place}
+use Rattle.clip_meaning.proofs.WordOrder.{Place}
 
 -- ---- one flag, raised for each element of a list that passes
 
@@ -134,13 +134,13 @@ empty_covers all k (p ∷ ps) =
     none true = refl
     none false = refl
 
--- a phrase covers a position from where it starts, if it begins at the posting
-pub covers_from_start : (words phrase : List (List ℕ)) (k : ℕ) (p : Place)
-    → is_within_run (start_at words phrase p) (length phrase) k ≡ covers words phrase k p.1
-covers_from_start words phrase k p = by_test (starts_with bytes_eq (drop p.1 words) phrase)
+-- a phrase covers a position from where it starts, if it begins there
+pub covers_from_start : (words phrase : List (List ℕ)) (k start : ℕ)
+    → is_within_run (start_at words phrase start) (length phrase) k ≡ covers words phrase k start
+covers_from_start words phrase k start = by_test (starts_with bytes_eq (drop start words) phrase)
   where
-    by_test : (b : Bool) → is_within_run (cond b (Some p.1) None) (length phrase) k
-        ≡ (b && is_within p.1 (length phrase) k)
+    by_test : (b : Bool) → is_within_run (cond b (Some start) None) (length phrase) k
+        ≡ (b && is_within start (length phrase) k)
     by_test true = refl
     by_test false = refl
 

@@ -8,7 +8,7 @@ use Rattle.std.proofs.lemmas.List.{drop-drop}
 use Rattle.clip_meaning.specs.Index.{numbered}
 use Rattle.clip_meaning.specs.Steps.Searches.{stands_at}
 use Rattle.clip_meaning.specs.Meaning.{has_run, is_nonempty}
-use Rattle.clip_meaning.proofs.Postings.{Place}
+use Rattle.clip_meaning.proofs.WordOrder.{Place}
 
 numbered_pass : (t : List ℕ → Bool) (n : ℕ) (ws : List (List ℕ)) → list_any (λ (p : Place). t p.0) (numbered n ws)
     ≡ list_any t ws
@@ -43,24 +43,27 @@ twice a false c e = ap (λ x. x && false) e
 
 -- a run of the phrase begins at a posting of its first word
 run_numbered : (all ws fs : List (List ℕ)) (f : List ℕ) (n : ℕ) → drop n all ≡ ws
-    → has_run ws (f ∷ fs) ≡ list_any (λ p. bytes_eq p.0 f && stands_at all (f ∷ fs) p) (numbered n ws)
+    → has_run ws (f ∷ fs) ≡ list_any (λ p. bytes_eq p.0 f && stands_at all (f ∷ fs) p.1) (numbered n ws)
 run_numbered all [] fs f n e = refl
 run_numbered all (w ∷ ws) fs f n e =
     ap (λ b. b || has_run ws (f ∷ fs)) (sym (ap (λ xs. bytes_eq w f && starts_with bytes_eq xs (f ∷ fs)) e
     ∙ twice (bytes_eq w f) (bytes_eq f w) _ (nat_list_eq_equiv.symm w f)))
-    ∙ ap (λ b. (bytes_eq w f && stands_at all (f ∷ fs) (w, n))
+    ∙ ap (λ b. (bytes_eq w f && stands_at all (f ∷ fs) n)
     || b) (run_numbered all ws fs f (n + 1) (rest_dropped n all w ws e))
 
 -- the postings of its first word settle a phrase, whose words g gives
 pub run_at_posting : {X : Type 0} (g : X
     → List ℕ) (all : List (List ℕ)) (phrase : List X) (x : X) (ps found : List Place) → 0 < length phrase
     → x ≡ get_or phrase 0 x → IsPermutation (numbered 0 all) ps → found ≡ filter (λ (p : Place). bytes_eq p.0 (g x)) ps
-    → list_any (stands_at all (map g phrase)) found ≡ (is_nonempty (map g phrase) && has_run all (map g phrase))
+    → list_any (λ (p : Place). stands_at all (map g phrase) p.1) found
+    ≡ (is_nonempty (map g phrase) && has_run all (map g phrase))
 run_at_posting g all [] x ps found lt is same kept = absurd (omega arith)
 run_at_posting g all (y ∷ ys) x ps found lt is same kept =
     let f = g y in
     let fs = map g ys in
-    ap (list_any (stands_at all (f ∷ fs))) (kept ∙ ap (λ z. filter (λ (p : Place). bytes_eq p.0 (g z)) ps) is)
-    ∙ any_filter (λ p. bytes_eq p.0 f) (stands_at all (f ∷ fs)) ps
-    ∙ sym (list_any-IsPermutation (λ (p : Place). bytes_eq p.0 f && stands_at all (f ∷ fs) p) (numbered 0 all) ps same)
+    ap (list_any (λ (p : Place). stands_at all (f ∷ fs) p.1)) (kept
+    ∙ ap (λ z. filter (λ (p : Place). bytes_eq p.0 (g z)) ps) is)
+    ∙ any_filter (λ p. bytes_eq p.0 f) (λ p. stands_at all (f ∷ fs) p.1) ps
+    ∙ sym (list_any-IsPermutation (λ (p : Place). bytes_eq p.0 f
+    && stands_at all (f ∷ fs) p.1) (numbered 0 all) ps same)
     ∙ sym (run_numbered all all fs f 0 refl)

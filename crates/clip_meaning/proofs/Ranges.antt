@@ -10,8 +10,9 @@ use Rattle.std.proofs.lemmas.Cmp.{upto}
 use Rattle.clip_words.specs.Order.{bytes_cmp}
 use Rattle.clip_grammar.specs.Tokens.{End}
 use Rattle.clip_meaning.proofs.Fields.{prefix_from_point}
-use Rattle.clip_meaning.proofs.Postings.{Place, Rises, tail_rises, turned, below_upto, not_below, no_later, stays_above}
-use Rattle.clip_meaning.proofs.Postings.{none_kept}
+use Rattle.clip_meaning.proofs.WordOrder.{Place, Rises, tail_rises, turned, below_upto, not_below, no_later}
+use Rattle.clip_meaning.proofs.WordOrder.{stays_above}
+use Rattle.clip_meaning.proofs.WordOrder.{none_kept}
 use Rattle.clip_meaning.specs.Steps.Searches.{from_low}
 use Rattle.clip_meaning.specs.Meaning.{above, below, begins_with, is_between}
 

@@ -7,16 +7,17 @@ ghost use Rattle.clip_meaning.specs.Article.{words_in, fault_of, refusal_of, art
 use crate::fault::{ArticleFault, fault_of};
 use crate::field::Field;
 use crate::field_map::FieldMap;
-use clip_words::{NoMemory, WordPool};
+use clip_words::{NoMemory, Texts};
 use std::alloc::Global;
 use std::marker::Model;
 use std::sync::{Arc, ArcStr};
 
-/// What the handles on one article share.
+/// What the handles on one article share. The words of a field that is not there are none.
 #[derive(Debug, Drop)]
 pub(crate) struct Parts {
     id: ArcStr,
     fields: FieldMap,
+    none: Texts,
 }
 
 /// An article: an id of 1 to 256 bytes, and at most 16 fields, each the words of a text. A `copy` shares all of it.
@@ -34,6 +35,7 @@ impl Drop for Article {
 }
 
 impl Model for Article {
+    ghost use Rattle.std.specs.Prelude.{◌≡◌, []};
     ghost use Rattle.std.specs.Arc.{arc_str_bytes};
     ghost use Rattle.clip_meaning.specs.Article.{ArticleValue, article_code};
 
@@ -42,6 +44,8 @@ impl Model for Article {
     ghost coded = { article_code };
 
     ghost view = { λ a. record { id = arc_str_bytes a.parts.value.id; fields = a.parts.value.fields } };
+
+    ghost invariant = { λ a. a.parts.value.none ≡ [] };
 }
 
 impl Article {
@@ -53,30 +57,10 @@ impl Article {
     /// # Errors
     ///
     /// The first refusal of `ArticleFault` that holds, judged before any memory is taken; `NoMemory` where an
-    /// allocation failed, only where none of the others holds.
+    /// allocation failed, or the words of a field take more than 4,294,967,295 bytes, only where none of the others
+    /// holds.
     pub fn read(
         alloc: Global,
-        id: &str,
-        fields: &[(String, String)],
-    ) -> Result<Article, ArticleFault>
-        ensures read { IfOk result (λ article. article ≡ article_value id.now (pairs_of fields.now)) }
-        ensures kept { IfOk result (λ _. fault_of id.now (pairs_of fields.now) ≡ None) }
-        ensures refused { IfErr result (λ fault. fault ≡ refusal_of id.now (pairs_of fields.now)) }
-    {
-        let mut pool = WordPool::new(alloc);
-        Article::read_with_pool(alloc, &mut pool, id, fields)
-    }
-
-    /// The article of an id and of pairs of a field's name and its text, where it may be one. Its words are shared with
-    /// those of the pool: articles that are read one after another with one pool take few allocations, since most of
-    /// their words occur in one of the last. The cost is that of `read`.
-    ///
-    /// # Errors
-    ///
-    /// Those of `read`; `NoMemory` also where the count of a text's handles is at its end.
-    pub fn read_with_pool(
-        alloc: Global,
-        pool: &mut WordPool,
         id: &str,
         fields: &[(String, String)],
     ) -> Result<Article, ArticleFault>
@@ -90,10 +74,17 @@ impl Article {
         let id = ArcStr::from_str(alloc, id)?;
         let mut kept = FieldMap::new(alloc);
         for (name, text) in fields {
-            kept.insert(Field::read(alloc, pool, name.as_str(), text.as_str())?)?;
+            kept.insert(Field::read(alloc, name.as_str(), text.as_str())?)?;
         }
         Ok(Article {
-            parts: Arc::new(alloc, Parts { id, fields: kept })?,
+            parts: Arc::new(
+                alloc,
+                Parts {
+                    id,
+                    fields: kept,
+                    none: Texts::new(alloc),
+                },
+            )?,
         })
     }
 
@@ -123,12 +114,12 @@ impl Article {
 
     /// The words of a field in the order of its text, none where the field is not there. Searches among at most 16
     /// names.
-    pub fn field(&self, name: &str) -> &[ArcStr]
-        ensures { map arc_str_bytes result.now ≡ words_in self.now.fields name.now }
+    pub fn field(&self, name: &str) -> &Texts
+        ensures { result.now ≡ words_in self.now.fields name.now }
     {
         match self.named(name) {
             Some(field) => field.words(),
-            None => &[],
+            None => &self.parts.none,
         }
     }
 

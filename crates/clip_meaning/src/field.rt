@@ -14,9 +14,9 @@ ghost use Rattle.clip_meaning.specs.Hits.{covers};
 ghost use Rattle.clip_meaning.specs.Steps.Marks.{AreRaised, start_at};
 
 use crate::flags::FieldFlags;
-use crate::index::{Posting, WordIndex};
+use crate::index::{Occurrence, Postings, occurrences_of, word_at};
 use clip_grammar::query::Bound;
-use clip_words::{NoMemory, WordPool, shared_words};
+use clip_words::{NoMemory, Texts, packed_words};
 use std::alloc::Global;
 use std::marker::Model;
 use std::sync::ArcStr;
@@ -27,39 +27,33 @@ use std::sync::ArcStr;
 #[derive(Debug, Drop)]
 pub struct Field {
     name: ArcStr,
-    words: Vec<ArcStr>,
-    index: WordIndex,
+    words: Texts,
+    occurrences: Vec<Occurrence>,
 }
 
 impl Model for Field {
-    ghost use Rattle.std.specs.Prelude.{ℕ, List, map, IsPermutation};
+    ghost use Rattle.std.specs.Prelude.{ℕ, List};
     ghost use Rattle.std.specs.Arc.{arc_str_bytes};
-    ghost use Rattle.clip_meaning.specs.Index.{numbered, posting_cmp};
-    ghost use Rattle.clip_meaning.specs.Steps.Searches.{stands_at};
+    ghost use Rattle.clip_meaning.specs.Steps.Occurrences.{IsIndexOf};
 
     ghost Value = { List ℕ × List (List ℕ) };
 
-    ghost view = { λ f. (arc_str_bytes f.name, map arc_str_bytes f.words.items) };
+    ghost view = { λ f. (arc_str_bytes f.name, f.words) };
 
-    ghost invariant = { λ f. IsPermutation (numbered 0 (map arc_str_bytes f.words.items)) f.index };
+    ghost invariant = { λ f. IsIndexOf f.words f.occurrences.items };
 }
 
 impl Field {
-    /// Cuts a field's text into words, folds them and sorts them. Words and name are shared with those of the pool.
-    pub(crate) fn read(
-        alloc: Global,
-        pool: &mut WordPool,
-        name: &str,
-        text: &str,
-    ) -> Result<Field, NoMemory>
+    /// Cuts a field's text into words, folds them and sorts them.
+    pub(crate) fn read(alloc: Global, name: &str, text: &str) -> Result<Field, NoMemory>
         ensures { IfOk result (λ field. field ≡ (name.now, words_of text.now)) }
     {
-        let words = shared_words(alloc, pool, text)?;
-        let index = WordIndex::read(alloc, &words)?;
+        let words = packed_words(alloc, text)?;
+        let occurrences = occurrences_of(alloc, &words)?;
         Ok(Field {
-            name: pool.shared(alloc, name)?,
+            name: ArcStr::from_str(alloc, name)?,
             words,
-            index,
+            occurrences,
         })
     }
 
@@ -70,28 +64,30 @@ impl Field {
         &self.name
     }
 
-    /// The field's words, each folded, in the order of the text. A `clone` of one shares it. Takes constant time.
-    pub fn words(&self) -> &[ArcStr]
-        ensures { map arc_str_bytes result.now ≡ self.now.1 }
+    /// The field's words, each folded, in the order of the text. Takes constant time.
+    pub fn words(&self) -> &Texts
+        ensures { result.now ≡ self.now.1 }
     {
         &self.words
     }
 
     /// Each of the field's words with its position: by the bytes of the words, and equal words by their positions.
     /// Takes constant time.
-    pub fn postings(&self) -> &[Posting]
-        ensures words { IsPermutation (numbered 0 self.now.1) result.now }
-        ensures sorted { IsSortedByKey (λ p. p.0) bytes_cmp result.now }
-        ensures in_order { IsSorted posting_cmp result.now }
+    pub fn postings(&self) -> Postings<'_>
+        ensures words { IsPermutation (numbered 0 self.now.1) result }
+        ensures sorted { IsSortedByKey (λ p. p.0) bytes_cmp result }
+        ensures in_order { IsSorted posting_cmp result }
     {
-        self.index.postings()
+        let postings = Postings::of(&self.words, &self.occurrences);
+        postings.order_law();
+        postings
     }
 
     /// Whether a word is among the words. Compares about the logarithm of the number of words.
     pub(crate) fn has_word(&self, word: &str) -> bool
         ensures { result ≡ list_any (λ w. bytes_eq w word.now) self.now.1 }
     {
-        self.index.has_word(word)
+        self.postings().has_word(word)
     }
 
     /// Whether the words of a phrase are next to each other in order, as in Lucene's PhraseQuery with no slop; false
@@ -103,7 +99,11 @@ impl Field {
         let Some(first) = phrase.first() else {
             return false;
         };
-        stands_at_any(&self.words, self.index.occurrences(first), phrase)
+        stands_at_any(
+            &self.words,
+            self.postings().occurrences(first).as_slice(),
+            phrase,
+        )
     }
 
     /// Whether a word begins with a prefix, as in Lucene's PrefixQuery. Takes no memory. Compares about the logarithm
@@ -112,7 +112,8 @@ impl Field {
         ensures front { result ≡ list_any (begins_with front.now) self.now.1 }
         ensures texts { All IsUtf8 self.now.1 }
     {
-        self.index.has_front(front)
+        self.words.utf8_law();
+        self.postings().has_front(front)
     }
 
     /// Whether a word lies between the bounds by bytes, as in Lucene's TermRangeQuery. Compares about the logarithm of
@@ -120,7 +121,7 @@ impl Field {
     pub(crate) fn has_between(&self, low: &Bound, high: &Bound) -> bool
         ensures { result ≡ list_any (is_between (end_of low.now) (end_of high.now)) self.now.1 }
     {
-        self.index.has_between(low, high)
+        self.postings().has_between(low, high)
     }
 
     /// Raises the flags of a word's positions. Compares about the logarithm of the number of words, and takes a step
@@ -131,7 +132,7 @@ impl Field {
         ensures raised { AreRaised flags.old flags.new
             (λ k. bytes_eq (get_or self.now.1 k []) word.now) }
     {
-        flags.raise_all(self.index.occurrences(word));
+        flags.raise_all(self.postings().occurrences(word).as_slice());
     }
 
     /// Raises the flags of the positions that a phrase covers. Looks only where the phrase's first word occurs: at
@@ -143,7 +144,8 @@ impl Field {
             (numbered 0 self.now.1)) }
     {
         if let Some(first) = phrase.first() {
-            mark_runs(&self.words, self.index.occurrences(first), phrase, flags);
+            let found = self.postings().occurrences(first);
+            mark_runs(&self.words, found.as_slice(), phrase, flags);
         }
     }
 
@@ -155,7 +157,7 @@ impl Field {
         ensures raised { AreRaised flags.old flags.new
             (λ k. begins_with front.now (get_or self.now.1 k [])) }
     {
-        flags.raise_all(self.index.with_front(front));
+        flags.raise_all(self.postings().with_front(front).as_slice());
     }
 
     /// Raises the flags of the words between the bounds. Compares about the logarithm of the number of words, and takes
@@ -166,55 +168,37 @@ impl Field {
         ensures raised { AreRaised flags.old flags.new
             (λ k. is_between (end_of low.now) (end_of high.now) (get_or self.now.1 k [])) }
     {
-        flags.raise_all(self.index.between(low, high));
+        flags.raise_all(self.postings().between(low, high).as_slice());
     }
 }
 
-/// The words from a position on, none where it is past the end.
-fn words_from(words: &[ArcStr], position: usize) -> &[ArcStr]
-    ensures { result.now ≡ drop position words.now }
+/// Whether a phrase begins at one of these occurrences.
+fn stands_at_any(words: &Texts, found: &[Occurrence], phrase: &[ArcStr]) -> bool
+    ensures { result ≡ list_any (λ o. stands_at words.now (map arc_str_bytes phrase.now) o.position) found.now }
 {
-    if position < words.len() {
-        &words[position..]
-    } else {
-        &[]
-    }
-}
-
-/// Whether a phrase begins at a posting.
-fn stands_at(words: &[ArcStr], phrase: &[ArcStr], posting: &Posting) -> bool
-    ensures { result ≡ stands_at (map arc_str_bytes words.now) (map arc_str_bytes phrase.now) posting.now }
-{
-    starts_with(words_from(words, posting.position()), phrase)
-}
-
-/// Whether a phrase begins at one of the postings.
-fn stands_at_any(words: &[ArcStr], postings: &[Posting], phrase: &[ArcStr]) -> bool
-    ensures { result ≡ list_any (stands_at (map arc_str_bytes words.now) (map arc_str_bytes phrase.now)) postings.now }
-{
-    for posting in postings {
-        if stands_at(words, phrase, posting) {
+    for occurrence in found {
+        if stands_at(words, occurrence.position(), phrase) {
             return true;
         }
     }
     false
 }
 
-/// Raises the flags of the words of a phrase at those of the postings where it begins.
-fn mark_runs(words: &[ArcStr], postings: &[Posting], phrase: &[ArcStr], flags: &mut FieldFlags)
+/// Raises the flags of the words of a phrase at those of these occurrences where it begins.
+fn mark_runs(words: &Texts, found: &[Occurrence], phrase: &[ArcStr], flags: &mut FieldFlags)
     ensures long { length flags.new ≡ length flags.old }
     ensures raised { AreRaised flags.old flags.new
-        (λ k. list_any (λ p. covers (map arc_str_bytes words.now) (map arc_str_bytes phrase.now) k p.1) postings.now) }
+        (λ k. list_any (λ o. covers words.now (map arc_str_bytes phrase.now) k o.position) found.now) }
 {
     flags.raise_runs(
-        postings,
+        found,
         phrase.len(),
-        |posting: &Posting| -> Option<usize>
+        |occurrence: &Occurrence| -> Option<usize>
             ensures { result
-                ≡ start_at (map arc_str_bytes words.entry.now) (map arc_str_bytes phrase.entry.now) posting.now }
+                ≡ start_at words.entry.now (map arc_str_bytes phrase.entry.now) occurrence.now.position }
         {
-            if stands_at(words, phrase, posting) {
-                Some(posting.position())
+            if stands_at(words, occurrence.position(), phrase) {
+                Some(occurrence.position())
             } else {
                 None
             }
@@ -222,20 +206,19 @@ fn mark_runs(words: &[ArcStr], postings: &[Posting], phrase: &[ArcStr], flags: &
     );
 }
 
-/// Whether the words begin with those of a phrase. Takes no memory. Cost: a comparison for each word of the phrase.
-pub fn starts_with(words: &[ArcStr], phrase: &[ArcStr]) -> bool
-    ensures { result ≡ starts_with bytes_eq (map arc_str_bytes words.now) (map arc_str_bytes phrase.now) }
+/// Whether the words of a phrase stand among these words from a position on. Takes no memory. Cost: a comparison for
+/// each word of the phrase.
+pub fn stands_at(words: &Texts, position: usize, phrase: &[ArcStr]) -> bool
+    ensures { result ≡ starts_with bytes_eq (drop position words.now) (map arc_str_bytes phrase.now) }
 {
-    let mut words = words;
+    let count = words.len();
+    let mut position = position;
     let mut phrase = phrase;
     while let Some((next, others)) = phrase.split_first() {
-        let Some((word, after)) = words.split_first() else {
-            return false;
-        };
-        if next.as_str() != word.as_str() {
+        if position >= count || next.as_str() != word_at(words, position) {
             return false;
         }
-        words = after;
+        position += 1;
         phrase = others;
     }
     true

@@ -6,7 +6,7 @@ ghost use Rattle.clip_meaning.specs.Hits.{hit_value, is_within};
 ghost use Rattle.clip_meaning.specs.Steps.Marks.{AreRaised, GivesStarts, is_within_run, raised};
 
 use crate::hit::Hit;
-use crate::index::Posting;
+use crate::index::Occurrence;
 use clip_words::NoMemory;
 use memchr::memchr_iter;
 use std::alloc::Global;
@@ -137,13 +137,13 @@ impl FieldFlags {
         }
     }
 
-    /// Raises the flags of the positions of postings.
-    pub(crate) fn raise_all(&mut self, postings: &[Posting])
+    /// Raises the flags of the positions of occurrences.
+    pub(crate) fn raise_all(&mut self, found: &[Occurrence])
         ensures long { length self.new ≡ length self.old }
-        ensures raised { AreRaised self.old self.new (λ k. list_any (λ p. nat_eq k p.1) postings.now) }
+        ensures raised { AreRaised self.old self.new (λ k. list_any (λ o. nat_eq k o.position) found.now) }
     {
-        for posting in postings {
-            self.raise(posting.position(), 1);
+        for occurrence in found {
+            self.raise(occurrence.position(), 1);
         }
     }
 

@@ -18,9 +18,9 @@ mod meaning;
 
 pub use article::Article;
 pub use fault::{ArticleFault, MOST_FIELDS, MOST_NAME_BYTES, fault_of, is_field_name};
-pub use field::{Field, starts_with};
+pub use field::{Field, stands_at};
 pub use flags::FieldFlags;
 pub use hit::{Hit, hits, mark};
-pub use index::Posting;
+pub use index::{Posting, Postings};
 pub use lead::{compare_by_leads, lead_of};
 pub use meaning::holds;

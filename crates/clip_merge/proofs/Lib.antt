@@ -3,3 +3,4 @@ pub mod Named
 pub mod Rises
 pub mod Runs
 pub mod Searching
+pub mod Totals

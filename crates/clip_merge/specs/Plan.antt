@@ -1,5 +1,6 @@
 -- Levels of segments, and which neighbours are merged next.
-use Rattle.std.specs.Prelude.{◌≡◌, ℕ, ◌+◌, ◌-◌, ◌*◌, ◌<◌, ◌≤◌, ◌^◌, List, [], length, take, drop, slice_index_or}
+use Rattle.std.specs.Prelude.{◌≡◌, ℕ, ◌+◌, ◌-◌, ◌*◌, ◌<◌, ◌≤◌, ◌^◌, Bool, true, List, [], length, take, drop}
+use Rattle.std.specs.Prelude.{slice_index_or}
 use Rattle.std.specs.List.{All}
 use Rattle.clip_indexed.specs.Segment.{all_entries}
 use Rattle.clip_model.specs.History.{Registered}
@@ -57,11 +58,12 @@ pub record IsOldestRise (segments : List (List Registered)) (first : ℕ) : Type
 -- ---- merge turns
 
 -- A turn merges the neighbours from the one place on to before the other: the oldest run, or, where there is none, all
--- segments from the oldest rise on.
-pub data IsTurn (segments : List (List Registered)) (first past : ℕ) : Type 0 where
-  run : IsOldestRun segments first → past ≡ first + RUN_LENGTH → IsTurn segments first past
+-- segments from the oldest rise on; and a turn to one segment all of several.
+pub data IsTurn (to_one : Bool) (segments : List (List Registered)) (first past : ℕ) : Type 0 where
+  run : IsOldestRun segments first → past ≡ first + RUN_LENGTH → IsTurn to_one segments first past
   rise : ((k : ℕ) → IsRun segments k → ⊥) → IsOldestRise segments first → past ≡ length segments
-      → IsTurn segments first past
+      → IsTurn to_one segments first past
+  all : to_one ≡ true → 1 < length segments → first ≡ 0 → past ≡ length segments → IsTurn to_one segments first past
 
 -- For each level up to that of all their entries together there are at most as many segments as make no run.
 pub record AreFew (segments : List (List Registered)) : Type 0 where

@@ -1,5 +1,5 @@
 //! Levels of segments, and which neighbours are merged next.
-ghost use Rattle.std.specs.Prelude.{◌≡◌, ℕ, ◌+◌, IfSome, None, map};
+ghost use Rattle.std.specs.Prelude.{◌≡◌, ℕ, ◌+◌, ◌≤◌, IfSome, None, length, map, true};
 ghost use Rattle.std.specs.Arc.{arc_value};
 ghost use Rattle.clip_merge.specs.Plan.{AreFew, IsLevel, IsOldestRise, IsOldestRun, IsRise, IsRun, IsTurn};
 
@@ -59,16 +59,21 @@ fn oldest_rise<I: Index>(segments: &[Arc<Segment<I>>]) -> Option<usize>
     oldest
 }
 
-/// Which neighbours a merge turn makes one: the place of the first, and that past the last. They are those of `plan`,
-/// or, where it finds none, all segments from the oldest on behind which one has a higher level. `None` where there are
-/// no such neighbours; then segments are few: three at most for each level up to that of all their entries together.
-/// Takes no memory. Cost: a step for each segment, and for each of its levels.
-pub fn plan_turn<I: Index>(segments: &[Arc<Segment<I>>]) -> Option<(usize, usize)>
-    ensures turn { IfSome result (λ at. IsTurn (map arc_value segments.now) at.0 at.1) }
+/// Which neighbours a merge turn makes one: the place of the first, and that past the last. Where `to_one`, they are
+/// all segments; else those of `plan`, or, where it finds none, all segments from the oldest on behind which one has a
+/// higher level. `None` where there are no two such neighbours; then segments are few: three at most for each level up
+/// to that of all their entries together, and where `to_one` at most one. Takes no memory. Cost: a step for each
+/// segment, and for each of its levels.
+pub fn plan_turn<I: Index>(segments: &[Arc<Segment<I>>], to_one: bool) -> Option<(usize, usize)>
+    ensures turn { IfSome result (λ at. IsTurn to_one (map arc_value segments.now) at.0 at.1) }
     ensures no_run { result ≡ None → (first : ℕ) → IsRun (map arc_value segments.now) first → ⊥ }
     ensures no_rise { result ≡ None → (first : ℕ) → IsRise (map arc_value segments.now) first → ⊥ }
     ensures few { result ≡ None → AreFew (map arc_value segments.now) }
+    ensures one { result ≡ None → to_one ≡ true → length segments.now ≤ 1 }
 {
+    if to_one && segments.len() > 1 {
+        return Some((0, segments.len()));
+    }
     match plan(segments) {
         Some(run) => Some(run),
         None => match oldest_rise(segments) {

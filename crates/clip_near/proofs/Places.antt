@@ -1,6 +1,6 @@
 -- The positions of a field's words, and that a query which stands at one holds.
 use Rattle.std.proofs.Common.{◌≡◌, ℕ, zero, suc, ◌+◌, ◌<◌, Bool, true, false, ◌&&◌, ◌||◌, List, [], ◌∷◌, length}
-use Rattle.std.proofs.Common.{drop, refl, sym, ap, ◌∙◌, arith, true≢false, bytes_eq, unwrap_or}
+use Rattle.std.proofs.Common.{drop, refl, sym, ap, ◌∙◌, arith, true≢false, bytes_eq, unwrap_or, slice_get, None, Some}
 use Rattle.std.specs.List.{list_any, starts_with}
 use Rattle.clip_grammar.specs.Tree.{Tree, Clauses}
 use Rattle.clip_grammar.specs.Tokens.{End}
@@ -74,6 +74,48 @@ stands_inside query [] zero h = absurd (true≢false (sym h ∙ stands_nothing q
 stands_inside query [] (suc k) h = absurd (true≢false (sym h ∙ stands_nothing query))
 stands_inside query (w ∷ ws) zero h = omega arith
 stands_inside query (w ∷ ws) (suc k) h = omega (arith, stands_inside query ws k h)
+
+-- it stands at no position past the last word
+pub stands_past : (query : Tree) (words : List (List ℕ)) (k : ℕ) → slice_get words k ≡ None
+    → stands_at query words k ≡ false
+stands_past query [] zero h = stands_nothing query
+stands_past query [] (suc k) h = stands_nothing query
+stands_past query (w ∷ ws) zero h = cc
+stands_past query (w ∷ ws) (suc k) h = stands_past query ws k h
+
+-- the words from a position on begin with the one that is there
+pub word_there : (words : List (List ℕ)) (k : ℕ) (w : List ℕ) → slice_get words k ≡ Some w
+    → drop k words ≡ w ∷ drop (suc k) words
+word_there [] k w h = cc
+word_there (x ∷ xs) zero w h = let same : x ≡ w = cc in ap (λ y. y ∷ xs) same
+word_there (x ∷ xs) (suc k) w h = word_there xs k w h
+
+-- what a look at a position finds of a word, a prefix or a phrase tells whether the query stands there
+pub term_there : (query : Tree) (field word w text : List ℕ) (words : List (List ℕ)) (k : ℕ) (found : Bool)
+    → query ≡ Tree.Term field word → slice_get words k ≡ Some w → text ≡ word → found ≡ bytes_eq w text
+    → found ≡ stands_at query words k
+term_there query field word w text words k found is there same e =
+    e ∙ ap (bytes_eq w) same ∙ sym (ap (stands (Tree.Term field word)) (word_there words k w there))
+    ∙ ap (λ q. stands_at q words k) (sym is)
+
+pub prefix_there : (query : Tree) (field front w text asked : List ℕ) (words : List (List ℕ)) (k : ℕ) (found : Bool)
+    → query ≡ Tree.Prefix field front → slice_get words k ≡ Some w → text ≡ w → asked ≡ front
+    → found ≡ begins_with asked text → found ≡ stands_at query words k
+prefix_there query field front w text asked words k found is there same sought e =
+    e ∙ (λ i. begins_with (sought i) (same i))
+    ∙ sym (ap (stands (Tree.Prefix field front)) (word_there words k w there))
+    ∙ ap (λ q. stands_at q words k) (sym is)
+
+pub phrase_there : (query : Tree) (field : List ℕ) (phrase words : List (List ℕ)) (k : ℕ) (found : Bool)
+    → query ≡ Tree.Phrase field phrase → 0 < length phrase → found ≡ starts_with bytes_eq (drop k words) phrase
+    → found ≡ stands_at query words k
+phrase_there query field [] words k found is some e = absurd (omega arith)
+phrase_there query field (p ∷ ps) words k found is some e = e ∙ ap (λ q. stands_at q words k) (sym is)
+
+pub no_phrase : (query : Tree) (field : List ℕ) (phrase words : List (List ℕ)) (k : ℕ)
+    → query ≡ Tree.Phrase field phrase → length phrase ≡ 0 → false ≡ stands_at query words k
+no_phrase query field [] words k is none = ap (λ q. stands_at q words k) (sym is)
+no_phrase query field (p ∷ ps) words k is none = absurd (omega arith)
 
 -- ---- it holds
 

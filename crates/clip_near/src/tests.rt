@@ -2,7 +2,7 @@
 use crate::{NoPlaces, near_holds, wider};
 use clip_grammar::query::{Occur, Query};
 use clip_meaning::{Article, holds};
-use clip_words::{WordPool, shared_words};
+use clip_words::shared_words;
 use std::alloc::Global;
 use std::sync::ArcStr;
 use std::test::Fail;
@@ -38,8 +38,7 @@ fn query(alloc: Global, text: &str) -> Result<Query, Fail> {
             front: ArcStr::from_str(alloc, front)?,
         });
     }
-    let mut pool = WordPool::new(alloc);
-    let words = shared_words(alloc, &mut pool, text)?;
+    let words = shared_words(alloc, text)?;
     Ok(Query::Phrase { field, words })
 }
 

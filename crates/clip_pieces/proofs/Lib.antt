@@ -1,5 +1,4 @@
 pub mod Filled
-pub mod Cuts
 pub mod Flags
 pub mod Words
 pub mod Held

@@ -24,7 +24,7 @@ impl<T: Copy> Drop for PackedLists<T> {
 
 impl<T: Copy> Model for PackedLists<T> {
     ghost use Rattle.std.specs.Prelude.{List};
-    ghost use Rattle.clip_pieces.specs.Packed.{cut, AreEnds};
+    ghost use Rattle.clip_words.specs.Packed.{cut, AreEnds};
 
     ghost Value = { List (List T) };
 

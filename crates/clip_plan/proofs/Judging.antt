@@ -21,7 +21,8 @@ use Rattle.clip_plan.specs.declared.first_words.TheConstants.{NO_TERM}
 use Rattle.clip_plan.specs.declared.step.Step.{Step}
 use Rattle.clip_plan.specs.declared.step.Step.TheVariants as step
 use Rattle.clip_plan.specs.Steps.Judging.{no_clauses, counted, counted_all, tally_holds, is_needless, leaf_holds}
-use Rattle.clip_plan.specs.Steps.Judging.{mark_holds, meant, Groups, marked, passed, onward, Left, Ends, LeadTo}
+use Rattle.clip_plan.specs.Steps.Judging.{mark_holds, meant, Groups, marked, passed, onward, is_absent, Left, Ends}
+use Rattle.clip_plan.specs.Steps.Judging.{LeadTo}
 use Rattle.clip_plan.specs.declared.judge.Tally.{Tally}
 use Rattle.clip_terms.specs.Terms.{term_at}
 use Rattle.clip_terms.specs.Reading.{has_key, has_run}
@@ -600,6 +601,22 @@ twice : (b : Bool) → (b && b) ≡ false → b ≡ false
 twice true fails = fails
 twice false fails = refl
 
+-- a leaf that may hold and does not leaves all as it is
+absent_marked : (fields : Fields) (i : ℕ) (mark : Mark KeyValue) (top : Tally) (around : List Tally)
+    → is_absent fields mark ≡ true → marked i mark (mark_holds fields mark) top around ≡ (top, around)
+absent_marked fields i (Leaf Must asks) top around absent = absurd (false≢true absent)
+absent_marked fields i (Leaf Should asks) top around absent =
+    ap (λ b. (record { may_hold = top.may_hold; is_met = b; end = top.end }, around))
+    (or_not top.is_met (leaf_holds fields asks) absent)
+  where
+    or_not : (m h : Bool) → not h ≡ true → (m || h) ≡ m
+    or_not true h e = refl
+    or_not false true e = absurd (false≢true e)
+    or_not false false e = refl
+absent_marked fields i (Leaf MustNot asks) top around absent = absurd (false≢true absent)
+absent_marked fields i (Open occur inside) top around absent = absurd (false≢true absent)
+absent_marked fields i (Close occur) top around absent = absurd (false≢true absent)
+
 -- ---- steps
 
 -- the words that are kept of a plan
@@ -714,6 +731,33 @@ module _ (runs : List (List ℕ)) (queries : List Tree) (terms : List KeyValue) 
       subst (λ l. Left (Ends fields verdict around) fields l (i + n) top)
       (ap (drop n) (sym here) ∙ drop-drop n i marks) over
 
+  -- it is counted
+  step_counted : (fields : Fields) (verdict : Bool) (steps : List Step) (marks : List (Mark KeyValue)) (i : ℕ)
+      (d : Step) (top next : Tally) (around left : List Tally) (held : Bool) → i < length steps
+      → held ≡ mark_holds fields (meant runs queries terms (get_or steps i d))
+      → (next, left) ≡ marked i (meant runs queries terms (get_or steps i d)) held top around
+      → map (meant runs queries terms) steps ≡ marks → LeadTo fields verdict marks i top around
+      → LeadTo fields verdict marks (i + 1) next left
+  step_counted fields verdict steps marks i d top next around left held inside asks moved same f =
+      let mark = meant runs queries terms (get_or steps i d) in
+      let here : drop i marks ≡ mark ∷ drop (i + 1) marks = next_of steps marks i d inside same in
+      let groups : (next, left) ≡ marked i mark (mark_holds fields mark) top around = moved
+      ∙ ap (λ b. marked i mark b top around) asks in
+      subst (λ (g : Groups). LeadTo fields verdict marks (i + 1) g.0 g.1) (sym groups)
+      (mark_counted fields verdict around mark (drop (i + 1) marks) i top
+      (subst (λ l. Left (Ends fields verdict around) fields l i top) here f))
+
+  -- it may hold and does not
+  pub step_absent : (fields : Fields) (verdict : Bool) (steps : List Step) (marks : List (Mark KeyValue)) (i : ℕ)
+      (d : Step) (top : Tally) (around : List Tally) → i < length steps
+      → is_absent fields (meant runs queries terms (get_or steps i d)) ≡ true
+      → map (meant runs queries terms) steps ≡ marks → LeadTo fields verdict marks i top around
+      → LeadTo fields verdict marks (i + 1) top around
+  step_absent fields verdict steps marks i d top around inside absent same f =
+      let mark = meant runs queries terms (get_or steps i d) in
+      step_counted fields verdict steps marks i d top top around around (mark_holds fields mark) inside refl
+      (sym (absent_marked fields i mark top around absent)) same f
+
   -- it is judged
   pub step_judged : (fields : Fields) (verdict : Bool) (steps : List Step) (marks : List (Mark KeyValue)) (i n : ℕ)
       (d : Step) (top next : Tally) (around left : List Tally) (held : Bool) → i < length steps
@@ -723,16 +767,9 @@ module _ (runs : List (List ℕ)) (queries : List Tree) (terms : List KeyValue) 
       → map (meant runs queries terms) steps ≡ marks → LeadTo fields verdict marks i top around
       → LeadTo fields verdict marks n next left
   step_judged fields verdict steps marks i n d top next around left held inside asks moved on same f =
-      let mark = meant runs queries terms (get_or steps i d) in
-      let here : drop i marks ≡ mark ∷ drop (i + 1) marks = next_of steps marks i d inside same in
-      let groups : (next, left) ≡ marked i mark (mark_holds fields mark) top around = moved
-      ∙ ap (λ b. marked i mark b top around) asks in
-      let counted_one : LeadTo fields verdict marks (i + 1) next left =
-      subst (λ (g : Groups). LeadTo fields verdict marks (i + 1) g.0 g.1) (sym groups)
-      (mark_counted fields verdict around mark (drop (i + 1) marks) i top
-      (subst (λ l. Left (Ends fields verdict around) fields l i top) here f)) in
       subst (λ k. LeadTo fields verdict marks k next left) (sym on)
-      (gone_on fields verdict left marks (i + 1) next counted_one)
+      (gone_on fields verdict left marks (i + 1) next
+      (step_counted fields verdict steps marks i d top next around left held inside asks moved same f))
 
   -- ---- where judging begins and ends
 

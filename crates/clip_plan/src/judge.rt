@@ -11,14 +11,15 @@
 //! | 5 | `d` | passed: the outermost is met | |
 //!
 //! In one without a the outermost group can't hold after step 0, and the rest is passed.
-ghost use Rattle.std.specs.Prelude.{◌≡◌, ℕ, ◌+◌, ◌<◌, ◌≤◌, Bool, false, List, [], IfOk, OnOk, map, length, reverse};
-ghost use Rattle.std.specs.Prelude.{unwrap_or, slice_get};
+ghost use Rattle.std.specs.Prelude.{◌≡◌, ℕ, ◌+◌, ◌<◌, ◌≤◌, Bool, true, false, List, [], IfOk, OnOk, map, length};
+ghost use Rattle.std.specs.Prelude.{unwrap_or, reverse, slice_get};
 ghost use Rattle.clip_grammar.specs.Tree.{Tree, tree_of};
 ghost use Rattle.clip_meaning.specs.Meaning.{holds};
 ghost use Rattle.clip_extract.specs.Keys.{KeyValue};
 ghost use Rattle.clip_plan.specs.Plan.{Mark, decoded, plan_of};
 ghost use Rattle.clip_plan.specs.Steps.Judging.{no_clauses, counted, tally_holds, is_needless, mark_holds, meant};
-ghost use Rattle.clip_plan.specs.Steps.Judging.{marked, passed, onward, LeadTo};
+ghost use Rattle.clip_plan.specs.Steps.Judging.{marked, passed, onward, is_absent, LeadTo};
+ghost use Rattle.clip_plan.specs.declared.judge.Tally.{Tally};
 
 use crate::first_words::NO_TERM;
 use crate::plans::Plans;
@@ -204,6 +205,17 @@ fn step_holds(runs: &PackedLists<u32>, queries: &[Query], step: Step, reading: &
     }
 }
 
+/// Whether a step asks for a word that may be there and is not: it changes nothing.
+fn is_absent(step: Step, reading: &Reading) -> bool
+    ensures { (runs : List (List ℕ)) (queries : List Tree) → result ≡ true
+        → is_absent reading.now.article.fields (meant runs queries reading.now.terms step) ≡ true }
+{
+    match step {
+        Step::Term(Occur::Should, number) => !reading.has(number),
+        _ => false,
+    }
+}
+
 /// The tally of the group that is open after the step of a place, where `held` is whether what it asks is so. The
 /// groups around that one are on the stack.
 fn tally_after(
@@ -270,6 +282,22 @@ impl<'a> Judging<'a> {
         Ok((next.onward(place + 1), next))
     }
 
+    /// The place of the first step from one on that is not absent.
+    fn past_absent(&self, place: usize) -> usize
+        ensures forward { place ≤ result }
+        ensures leads { (verdict : Bool) (marks : List (Mark KeyValue)) (top : Tally) (around : List Tally)
+            → map (meant self.now.runs.now (map tree_of self.now.queries.now) self.now.reading.now.terms)
+            self.now.steps.now ≡ marks
+            → LeadTo self.now.reading.now.article.fields verdict marks place top around
+            → LeadTo self.now.reading.now.article.fields verdict marks result top around }
+    {
+        let mut past = place;
+        while past < self.steps.len() && is_absent(self.steps[past], self.reading) {
+            past += 1;
+        }
+        past
+    }
+
     /// Whether the query of the steps holds of the article that is read.
     fn holds(&self, stack: &mut Vec<Tally>) -> Result<bool, NoMemory>
         ensures { IfOk result (λ held. (tree : Tree)
@@ -282,7 +310,7 @@ impl<'a> Judging<'a> {
         stack.clear();
         while place < self.steps.len() {
             let (next, tally) = self.turn(place, top, stack)?;
-            place = next;
+            place = self.past_absent(next);
             top = tally;
         }
         Ok(top.holds())

@@ -12,11 +12,12 @@ use std::alloc::Global;
 use std::sync::ArcStr;
 
 /// Adds the keys of a field's words.
-fn add_words(field: &Field, keys: &mut Vec<Key>) -> Result<(), NoMemory>
+fn add_words(alloc: Global, field: &Field, keys: &mut Vec<Key>) -> Result<(), NoMemory>
     ensures { OnOk result (map key_of keys.new.items ≡ map key_of keys.old.items ++ field_keys field.now) }
 {
     for word in field.words() {
-        keys.push(Key::Word(field.name().clone()?, word.clone()?))?;
+        let word = ArcStr::from_str(alloc, word)?;
+        keys.push(Key::Word(field.name().clone()?, word))?;
     }
     Ok(())
 }
@@ -50,11 +51,11 @@ fn add_fronts(alloc: Global, field: &Field, keys: &mut Vec<Key>) -> Result<(), N
 }
 
 /// Adds the keys of the words of fields.
-fn add_field_words(fields: &[Field], keys: &mut Vec<Key>) -> Result<(), NoMemory>
+fn add_field_words(alloc: Global, fields: &[Field], keys: &mut Vec<Key>) -> Result<(), NoMemory>
     ensures { OnOk result (map key_of keys.new.items ≡ map key_of keys.old.items ++ flat_map field_keys fields.now) }
 {
     for field in fields {
-        add_words(field, keys)?;
+        add_words(alloc, field, keys)?;
     }
     Ok(())
 }
@@ -70,15 +71,15 @@ fn add_field_fronts(alloc: Global, fields: &[Field], keys: &mut Vec<Key>) -> Res
 }
 
 /// The keys of an article, in order, each once: Any, each word of each field, and what these words begin with, one to
-/// `MOST_FRONT_CHARACTERS` characters. Words are shared with the article.
+/// `MOST_FRONT_CHARACTERS` characters.
 ///
-/// `NoMemory` where an allocation failed. Cost: a text for each front of each word, and a sort of all keys.
+/// `NoMemory` where an allocation failed. Cost: a text for each word and each of its fronts, and a sort of all keys.
 pub fn article_keys(alloc: Global, article: &Article) -> Result<Vec<Key>, NoMemory>
     ensures { IfOk result (λ found. map key_of found.items ≡ article_keys article.now.fields) }
 {
     let mut keys = Vec::new(alloc);
     keys.push(Key::Any)?;
-    add_field_words(article.fields(), &mut keys)?;
+    add_field_words(alloc, article.fields(), &mut keys)?;
     add_field_fronts(alloc, article.fields(), &mut keys)?;
     sort_keys(keys)
 }

@@ -9,7 +9,7 @@ use crate::refusal::{LIMITED, Refusal, Unread};
 use crate::request::Draft;
 use clip_meaning::{Article, ArticleFault, fault_of};
 use clip_model::MOST_ARTICLES;
-use clip_words::{NoMemory, WordPool};
+use clip_words::NoMemory;
 use std::alloc::Global;
 use std::marker::Model;
 
@@ -53,12 +53,12 @@ impl JudgedDraft {
         }
     }
 
-    /// The article that the draft is, whose words are shared with those of the pool. `NoMemory` where an allocation
-    /// failed or the count of a text's handles is at its end, and only there. Cost: that of `Article::read_with_pool`.
-    pub fn read(&self, alloc: Global, pool: &mut WordPool) -> Result<Article, NoMemory>
+    /// The article that the draft is. `NoMemory` where `Article::read` answers it, and only there. Cost: that of
+    /// `Article::read`.
+    pub fn read(&self, alloc: Global) -> Result<Article, NoMemory>
         ensures { IfOk result (λ article. article ≡ self.now) }
     {
-        match Article::read_with_pool(alloc, pool, self.draft.id.as_str(), &self.draft.fields) {
+        match Article::read(alloc, self.draft.id.as_str(), &self.draft.fields) {
             Ok(article) => Ok(article),
             Err(ArticleFault::NoMemory) => Err(NoMemory),
             Err(_) => unreachable!(),
@@ -84,19 +84,14 @@ pub fn judge_drafts(alloc: Global, drafts: Vec<Draft>) -> Result<Vec<JudgedDraft
     Ok(all)
 }
 
-/// The articles that judged drafts are, in order, whose words are shared with those of the pool. `NoMemory` where an
-/// allocation failed or the count of a text's handles is at its end, and only there. Cost: that of
-/// `Article::read_with_pool` for each.
-pub fn articles_of(
-    alloc: Global,
-    pool: &mut WordPool,
-    drafts: &[JudgedDraft],
-) -> Result<Vec<Article>, NoMemory>
+/// The articles that judged drafts are, in order. `NoMemory` where an allocation failed or `Article::read` answers it,
+/// and only there. Cost: that of `Article::read` for each.
+pub fn articles_of(alloc: Global, drafts: &[JudgedDraft]) -> Result<Vec<Article>, NoMemory>
     ensures { IfOk result (λ all. all.items ≡ drafts.now) }
 {
     let mut all = Vec::with_capacity(alloc, drafts.len())?;
     for draft in drafts {
-        all.push(draft.read(alloc, pool)?)?;
+        all.push(draft.read(alloc)?)?;
     }
     Ok(all)
 }

@@ -1,6 +1,6 @@
 -- A merge misses nothing, however late it is installed.
 use Rattle.std.proofs.Common.{◌≡◌, ℕ, ◌+◌, ◌≤◌, true, [], ◌++◌, drop, length, length-take, length-drop, append-nil, sym}
-use Rattle.std.proofs.Common.{ap, subst, ◌∙◌, inl, inr, arith}
+use Rattle.std.proofs.Common.{ap, subst, ◌∙◌, inl, inr, arith, Bool}
 use Rattle.std.proofs.lemmas.List.Elements.{All-contains}
 use Rattle.std.specs.List.{Contains}
 use Rattle.clip_merge.specs.Live.{names}
@@ -51,14 +51,14 @@ over_of_begun state job is =
     }
 
 pub late_merges_miss_nothing : LateMergesMissNothing
-late_merges_miss_nothing begun later more job whole (inl is) goes_on miss =
+late_merges_miss_nothing begun later more job to_one whole (inl is) goes_on miss =
     misses_nothing begun later more job is.first (is.first + RUN_LENGTH) whole (over_of_begun begun job is) goes_on miss
-late_merges_miss_nothing begun later more job whole (inr is) goes_on miss =
+late_merges_miss_nothing begun later more job to_one whole (inr is) goes_on miss =
     misses_nothing begun later more job is.first is.past whole is.over goes_on miss
 
 -- and one of a turn is not stale where it was begun
-pub never_stale : (state : RegistryState) (job : Job) → IsWhole state → IsTurnBegun state job
+pub never_stale : (to_one : Bool) (state : RegistryState) (job : Job) → IsWhole state → IsTurnBegun to_one state job
     → IsStale state (merge_of job) → ⊥
-never_stale state job whole is (gone nowhere) = nowhere is.first is.over.stands
-never_stale state job whole is (misses miss) =
-    late_merges_miss_nothing state state [] job whole (inr is) (sym (append-nil state.history)) miss
+never_stale to_one state job whole is (gone nowhere) = nowhere is.first is.over.stands
+never_stale to_one state job whole is (misses miss) =
+    late_merges_miss_nothing state state [] job to_one whole (inr is) (sym (append-nil state.history)) miss

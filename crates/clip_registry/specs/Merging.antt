@@ -41,11 +41,11 @@ pub record IsOver (state : RegistryState) (job : Job) (first past : ℕ) : Type 
   pub ends : first + length job.sources ≡ past
   pub live : job.live ≡ map (λ r. r.seq) (live_of state (all_entries job.sources))
 
--- The job is over the neighbours that a merge turn merges.
-pub record IsTurnBegun (state : RegistryState) (job : Job) : Type 0 where
+-- The job is over the neighbours that a merge turn merges, to one segment or not.
+pub record IsTurnBegun (to_one : Bool) (state : RegistryState) (job : Job) : Type 0 where
   pub first : ℕ
   pub past : ℕ
-  pub turn : IsTurn state.segments first past
+  pub turn : IsTurn to_one state.segments first past
   pub over : IsOver state job first past
 
 -- ---- merges
@@ -107,6 +107,6 @@ purged state = record state { segments = filter has_entries (map (live_of state)
 
 -- However the history went on since a job was begun, its merge misses no live entry.
 abbrev pub LateMergesMissNothing : Type 0
-LateMergesMissNothing = (begun later : RegistryState) (more : History) (job : Job) → IsWhole begun
-    → IsBegun begun job ⊎ IsTurnBegun begun job → later.history ≡ begun.history ++ more
+LateMergesMissNothing = (begun later : RegistryState) (more : History) (job : Job) (to_one : Bool) → IsWhole begun
+    → IsBegun begun job ⊎ IsTurnBegun to_one begun job → later.history ≡ begun.history ++ more
     → Misses later (merge_of job) → ⊥

@@ -19,6 +19,7 @@ mod trail;
 mod turn;
 mod view;
 
+pub use clip_merge::Payment;
 pub use history::History;
 pub use merging::{Installed, MergeJob, MergeTurn, Merged, late_merges_miss_nothing};
 pub use registrar::Registrar;

@@ -84,9 +84,11 @@ pub enum Installed {
 /// What a turn of merging did: a job begun where there is one, run, and its merge installed.
 #[derive(Clone, Copy, Debug, PartialEq, Eq)]
 pub enum MergeTurn {
-    /// There were no four neighbouring segments of one level, and none behind which one has a higher level.
+    /// There were no four neighbouring segments of one level, and none behind which one has a higher level, nor were
+    /// several to become one.
     Nothing,
-    /// The oldest four such segments are one now, or all from the oldest on behind which one has a higher level.
+    /// The oldest four such segments are one now, or all from the oldest on behind which one has a higher level, or
+    /// all that were to become one.
     Installed,
     /// The segments did not stand any more when their merge was done, and nothing was changed.
     Stale,

@@ -2,6 +2,7 @@
 ghost use Rattle.std.specs.Prelude.{◌≡◌, ◌-◌, ◌<◌, ◌≤◌, ℕ, true, false, Ok, Err, None, length, IfOk, IfErr, IfSome};
 ghost use Rattle.std.specs.Prelude.{OnOk, OnErr, IsTrue, IsFalse, slice_get, option_map, option_copied};
 ghost use Rattle.clip_merge.specs.Plan.{AreFew, IsRun};
+ghost use Rattle.clip_merge.specs.Price.{HavePaid};
 ghost use Rattle.clip_model.specs.History.{fits, has_room, applied, own, IsLegal};
 ghost use Rattle.clip_standing.specs.Command.{command_of, answer_of, shared_entry};
 ghost use Rattle.clip_registry.specs.Merging.{IsBegun, IsInstalled, IsStale, IsTurnBegun, purged};
@@ -15,8 +16,8 @@ use crate::merging::{Installed, MergeJob, Merged};
 use crate::purging::live_segments;
 use crate::state::State;
 use crate::view::View;
-use clip_indexed::Index;
-use clip_merge::{plan, plan_turn};
+use clip_indexed::{Index, Segment};
+use clip_merge::{Payment, plan, plan_turn};
 use clip_model::{MOST_CALLERS, MOST_ENTRIES};
 use clip_standing::{Applied, Command, HistoryEntry, Refused};
 use clip_words::NoMemory;
@@ -154,23 +155,39 @@ impl<I: Index> Registrar<I> {
         }
     }
 
-    /// Begins the merge of a turn: that of `begin`, or, where there are no such four, a job over all segments from the
-    /// oldest on behind which one has a higher level. `None` where there is none either; then segments are few: three
-    /// at most for each level up to that of all their entries together. `NoMemory` where an allocation failed.
+    /// Begins the merge of a turn: a job over all segments where they are to become one, and else that of `begin`, or,
+    /// where there are no such four, a job over all segments from the oldest on behind which one has a higher level.
+    /// `None` where there are no two such segments; then segments are few: three at most for each level up to that of
+    /// all their entries together, and at most one where they are to become one. `NoMemory` where an allocation failed.
     ///
     /// Cost: that of `clip_merge::plan_turn`, so a step for each segment and each of its levels. No entry is looked at.
-    pub fn begin_turn(&self) -> Result<Option<MergeJob<I>>, NoMemory>
-        ensures begun { IfOk result (λ job. IfSome job (IsTurnBegun self.now)) }
+    pub fn begin_turn(&self, to_one: bool) -> Result<Option<MergeJob<I>>, NoMemory>
+        ensures begun { IfOk result (λ job. IfSome job (IsTurnBegun to_one self.now)) }
         ensures nothing { result ≡ Ok None → (first : ℕ) → IsRun self.now.segments first → ⊥ }
         ensures few { result ≡ Ok None → AreFew self.now.segments }
+        ensures one { result ≡ Ok None → to_one ≡ true → length self.now.segments ≤ 1 }
         ensures whole { IsWhole self.now }
     {
         let Some(state) = &self.state else {
             return Ok(None);
         };
-        match plan_turn(&state.segments) {
+        match plan_turn(&state.segments, to_one) {
             Some((first, past)) => Ok(Some(MergeJob::of(self.alloc, state, first, past)?)),
             None => Ok(None),
+        }
+    }
+
+    /// Takes what so many matched articles pay towards one segment in the place of all, and says whether it is due, as
+    /// `Payment::is_due` does. Takes no memory. Cost: a step for each segment.
+    pub fn is_merge_due(&self, payment: &mut Payment, matched: usize) -> bool
+        ensures { HavePaid payment.old payment.new self.now.segments matched result }
+    {
+        match &self.state {
+            Some(state) => payment.is_due(&state.segments, matched),
+            None => {
+                let none: Vec<Arc<Segment<I>>> = Vec::new(self.alloc);
+                payment.is_due(&none, matched)
+            }
         }
     }
 

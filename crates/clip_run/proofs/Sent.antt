@@ -13,7 +13,6 @@ use Rattle.std.proofs.vec.Vec.TheSendSync as vec_sent
 use Rattle.std.proofs.sync.Arc.TheSendSync as arc_sent
 use Rattle.std.proofs.sync.atomic.AtomicUsize.TheSendSync as counter_sent
 use Rattle.clip_words.proofs.NoMemory.TheSendSync as no_memory_sent
-use Rattle.clip_words.proofs.pool.WordPool.TheSendSync as pool_sent
 use Rattle.clip_match.proofs.Sent.{registrar_send, view_send, view_sync}
 use Rattle.clip_protocol.proofs.judged.JudgedDraft.TheSendSync as judged_sent
 use Rattle.clip_protocol.proofs.Sent.{found_send}
@@ -83,7 +82,7 @@ answer_send : IsSend answer.the_row
 answer_send = declared_send answer.the_type (search sendable, (place_sent.the_send, (found_send, tt)))
 
 pub helped_send : IsSend helped.the_row
-helped_send = declared_send helped.the_type (search (parts, answer_send), (pool_sent.the_send, tt))
+helped_send = declared_send helped.the_type (search (parts, answer_send), tt)
 
 pub own_registrar_send : IsSend own_registrar.the_row
 own_registrar_send = declared_send own_registrar.the_type (

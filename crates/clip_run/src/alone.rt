@@ -11,13 +11,20 @@ use crate::own_registrar::OwnRegistrar;
 use clip_front::{Ended, Server, Settings, Step, serve, take_kept, take_line};
 use clip_listen::Audience;
 use clip_match::OpenGate;
+use clip_registry::Payment;
 use clip_stream::{Flow, RunFault, Sink, Source};
 use std::alloc::Global;
 
-/// The registry of a run, and what gives batches. They answer requests, with an audience to which alerts are told.
+/// How many entries one segment may have that matched articles have paid for: more are rewritten by the turns after a
+/// change alone, since nothing is answered meanwhile.
+const MOST_PAID: usize = 1_048_576;
+
+/// The registry of a run, what its articles have paid towards one segment, and what gives batches. They answer
+/// requests, with an audience to which alerts are told.
 #[derive(Drop)]
 struct RunServer<'g> {
     registry: OwnRegistrar,
+    payment: Payment,
     giver: Giver<'g, OpenGate>,
 }
 
@@ -44,6 +51,7 @@ impl<A: Audience, W: Sink> Server<A, W> for RunServer<'_> {
         match take_line(alloc, &mut self.registry, audience, number, bytes)? {
             Step::Reply(text) => flow.put(&text),
             Step::Match(drafts) => {
+                self.registry.merge_paid(&mut self.payment, drafts.len());
                 let view = self.registry.registrar.view()?;
                 let batch = Batch {
                     number,
@@ -71,7 +79,9 @@ impl<A: Audience, W: Sink> Server<A, W> for RunServer<'_> {
 /// After each accepted change merge turns are taken until there is nothing to merge: the oldest four neighbouring
 /// segments of one level become one, or, where there are no such four, all from the oldest on behind which one has a
 /// higher level. Then there are three segments at most for each level up to that of all their entries together. Where a
-/// turn is refused memory, the turns after the next change merge again. What is registered stays as it is.
+/// turn is refused memory, the turns after the next change merge again. What is registered stays as it is. Each matched
+/// article pays for the segments in which it is looked up beside the oldest (`Payment::is_due`); before the line by
+/// which that is as much as all entries, up to 1,048,576, all segments become one.
 ///
 /// The devices are to be fresh: nothing was read yet, the reader has not met its end, and no call of it or of the
 /// writer has failed.
@@ -89,9 +99,9 @@ impl<A: Audience, W: Sink> Server<A, W> for RunServer<'_> {
 /// step for each entry, and rewrites the segments that have a dead one. A match costs for each article its words, a
 /// look-up of its keys in each segment, and its candidates, and not the registry, and for each alert with a listener a
 /// look-up of the name and what that listener takes. Memory: one line and what it asks for, up to 64 KiB of gathered
-/// replies and a piece of 64 ids or hits more, the alerts of one article and the notes of one line, at most 4,096
-/// words of the last articles, the registered queries, and those that no merge or purge has left out yet, with their
-/// index, and a row for each alert where rows are kept.
+/// replies and a piece of 64 ids or hits more, the alerts of one article and the notes of one line, the registered
+/// queries, and those that no merge or purge has left out yet, with their index, and a row for each alert where rows
+/// are kept.
 pub fn run_alone<R: Source, W: Sink, A: Audience>(
     alloc: Global,
     reader: &mut R,
@@ -147,6 +157,7 @@ pub fn run_alone_again<R: Source, W: Sink, A: Audience>(
     let gate = OpenGate;
     let mut server = RunServer {
         registry: OwnRegistrar::new(alloc),
+        payment: Payment::towards(MOST_PAID),
         giver: Giver::new(alloc, &gate, settings),
     };
     take_kept(alloc, &mut server.registry, audience, kept)?;

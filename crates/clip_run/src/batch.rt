@@ -11,7 +11,7 @@ use clip_front::Settings;
 use clip_match::{DueEntries, Gate, View, entries_due};
 use clip_meaning::Article;
 use clip_protocol::{AlertsSaid, Found, JudgedDraft, Shown};
-use clip_words::{NoMemory, WordPool};
+use clip_words::NoMemory;
 use std::alloc::Global;
 
 /// The articles of a match line, and the registry at which they are matched.
@@ -95,16 +95,14 @@ impl Batch {
         due
     }
 
-    /// What is found of one of its articles. It is read, with words that are shared with those of the pool, and then
-    /// matched, all on the thread that calls, which also makes the alerts, or writes what a reply shows where none are
-    /// made.
+    /// What is found of one of its articles. It is read and then matched, all on the thread that calls, which also
+    /// makes the alerts, or writes what a reply shows where none are made.
     ///
     /// `NoMemory` where an allocation failed. Cost: that of `JudgedDraft::read` and of `Batch::due`; and of
     /// `DueEntries::alerts`, or of `DueEntries::queries`, `views_to_show` and `Shown::unmade`.
     pub fn find<G: Gate>(
         &self,
         alloc: Global,
-        pool: &mut WordPool,
         article: usize,
         settings: Settings,
         gate: &G,
@@ -113,7 +111,7 @@ impl Batch {
         ensures { IfOk result (λ found. IsDue settings (due_to self.now) article found) }
     {
         let draft = &self.drafts[article];
-        let read = draft.read(alloc, pool)?;
+        let read = draft.read(alloc)?;
         let due = self.due(alloc, &read, article, settings, gate)?;
         found_of(alloc, settings, due, alerts_said(&self.view, &read))
     }

@@ -16,15 +16,19 @@ use std::alloc::Global;
 use std::marker::Model;
 use std::sync::Wait;
 
+/// How many matched articles the merging thread is told of at once, or more.
+const ARTICLES_AT_ONCE: usize = 64;
+
 /// The only caller at a desk, which has segments merged after each accepted command: by a merging thread that it tells,
-/// or by merge turns of its own where there is none. It is seen as what was accepted, and how long the history was at
-/// its last purge.
+/// or by merge turns of its own where there is none. It tells that thread of matched articles too. It is seen as what
+/// was accepted, and how long the history was at its last purge.
 #[derive(Drop)]
 pub struct Caller<'r, 'd, R, N: DeskName> {
     rt: &'r R,
     desk: &'d Desk<N>,
     seat: Seat,
     nudges: Option<Sender<Nudge>>,
+    matched: usize,
 }
 
 impl<'r, 'd, R, N: DeskName> Model for Caller<'r, 'd, R, N> {
@@ -52,6 +56,7 @@ impl<'r, 'd, R: Wait, N: DeskName> Caller<'r, 'd, R, N> {
             desk,
             seat,
             nudges: None,
+            matched: 0,
         }
     }
 
@@ -64,6 +69,22 @@ impl<'r, 'd, R: Wait, N: DeskName> Caller<'r, 'd, R, N> {
             desk: self.desk,
             seat: self.seat,
             nudges: Some(nudges),
+            matched: self.matched,
+        }
+    }
+
+    /// Counts matched articles, and tells the merging thread of 64 or more at once. A nudge that is refused memory is
+    /// dropped. Constant time.
+    pub fn count_matched(&mut self, articles: usize)
+        ensures { self.new ≡ self.old }
+    {
+        let Some(nudges) = &self.nudges else {
+            return;
+        };
+        self.matched = self.matched.saturating_add(articles);
+        if self.matched >= ARTICLES_AT_ONCE {
+            let _ = nudges.send(self.rt, Nudge::Matched(self.matched));
+            self.matched = 0;
         }
     }
 
@@ -103,7 +124,7 @@ impl<'r, 'd, R: Wait, N: DeskName> Merging for Caller<'r, 'd, R, N> {
             Some(nudges) => {
                 let _ = nudges.send(self.rt, Nudge::Merge);
             }
-            None => self.desk.merge_all(self.rt),
+            None => self.desk.merge_all(self.rt, false),
         }
     }
 }

@@ -225,9 +225,7 @@ impl<'r, 'd, 'g, R: Threads + Wait + Sync, N: DeskName, G: Gate + Clone + Send +
             alloc,
             Group::of(alloc, items, self.giver.books.settings, gate)?,
         )?;
-        let answers = self
-            .helpers
-            .answers(self.rt, &mut self.giver.pool, &group, load, count);
+        let answers = self.helpers.answers(self.rt, &group, load, count);
         self.settle_all(audience, &group.items, answers, flow)
     }
 
@@ -243,6 +241,7 @@ impl<'r, 'd, 'g, R: Threads + Wait + Sync, N: DeskName, G: Gate + Clone + Send +
         }) }
     {
         let view = self.caller.look()?;
+        self.caller.count_matched(drafts.len());
         self.batches = self.batches.wrapping_add(1);
         self.load = self.load.with(drafts.len(), bytes);
         self.waiting = self.waiting.saturating_add(1);

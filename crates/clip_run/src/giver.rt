@@ -18,7 +18,6 @@ use clip_listen::Audience;
 use clip_match::{DueEntries, Gate};
 use clip_protocol::Found;
 use clip_stream::{Flow, RunFault, Sink};
-use clip_words::WordPool;
 use std::alloc::Global;
 
 /// An article of a batch whose turn has come, with what a helper found of it, if one has taken it.
@@ -32,7 +31,7 @@ pub struct Turn<'a> {
     pub found: Option<Found>,
 }
 
-/// What gives batches: the books of a run, words of the last articles that it matched, and the gate that matches pass.
+/// What gives batches: the books of a run, and the gate that matches pass.
 #[derive(Drop)]
 pub struct Giver<'g, G> {
     /// What it takes memory from.
@@ -41,8 +40,6 @@ pub struct Giver<'g, G> {
     pub gate: &'g G,
     /// The books.
     pub books: Books,
-    /// The words.
-    pub pool: WordPool,
 }
 
 /// Delivers what is due to an article, posts it, and puts what the reply shows of it. No alert is made where no query
@@ -85,7 +82,6 @@ impl<'g, G: Gate> Giver<'g, G> {
             alloc,
             gate,
             books: Books::new(alloc, settings),
-            pool: WordPool::new(alloc),
         }
     }
 
@@ -119,7 +115,7 @@ impl<'g, G: Gate> Giver<'g, G> {
     {
         let alloc = self.alloc;
         let draft = &batch.drafts[article];
-        let read = draft.read(alloc, &mut self.pool)?;
+        let read = draft.read(alloc)?;
         let due = batch.due(alloc, &read, article, self.books.settings, self.gate)?;
         answer_article(alloc, audience, &mut self.books, flow, reply, due)
     }

@@ -7,7 +7,7 @@ use clip_front::Settings;
 use clip_match::Gate;
 use clip_protocol::Found;
 use clip_standing::Alert;
-use clip_words::{NoMemory, WordPool};
+use clip_words::NoMemory;
 use std::alloc::Global;
 use std::sync::atomic::AtomicUsize;
 use std::sync::atomic::Ordering::SeqCst;
@@ -129,13 +129,7 @@ impl<G: Gate + Drop> Group<G> {
     }
 
     /// What is found of the article of this number and place, or none where memory is refused.
-    fn answer(
-        &self,
-        alloc: Global,
-        pool: &mut WordPool,
-        number: usize,
-        place: Place,
-    ) -> Option<Answer>
+    fn answer(&self, alloc: Global, number: usize, place: Place) -> Option<Answer>
         ensures { IfSome result (λ answer. IsDueAt self.now.settings self.now.items.items answer) }
     {
         let Some(Pending::Waiting(batch)) = self.items.get(place.line) else {
@@ -144,7 +138,7 @@ impl<G: Gate + Drop> Group<G> {
         if place.article >= batch.drafts.len() {
             return None;
         }
-        match batch.find(alloc, pool, place.article, self.settings, &self.gate) {
+        match batch.find(alloc, place.article, self.settings, &self.gate) {
             Ok(found) => Some(Answer {
                 number,
                 place,
@@ -154,10 +148,9 @@ impl<G: Gate + Drop> Group<G> {
         }
     }
 
-    /// Takes articles until all are taken, and gives what is found of them, whose words are shared with those of the
-    /// pool. Where memory is refused, or what all threads have found takes 16 MiB, it takes no more. Cost: that of
-    /// `Batch::find` for each article that it takes.
-    pub fn take_articles(&self, alloc: Global, pool: &mut WordPool) -> Vec<Answer>
+    /// Takes articles until all are taken, and gives what is found of them. Where memory is refused, or what all
+    /// threads have found takes 16 MiB, it takes no more. Cost: that of `Batch::find` for each article that it takes.
+    pub fn take_articles(&self, alloc: Global) -> Vec<Answer>
         ensures { AreDue self.now.settings self.now.items.items result.items }
     {
         let mut answers = Vec::new(alloc);
@@ -169,7 +162,7 @@ impl<G: Gate + Drop> Group<G> {
             let Some(place) = self.places.get(number) else {
                 break;
             };
-            let Some(answer) = self.answer(alloc, pool, number, *place) else {
+            let Some(answer) = self.answer(alloc, number, *place) else {
                 break;
             };
             self.held.fetch_add(bytes_of(&answer.found), SeqCst);

@@ -8,7 +8,6 @@ use crate::batch::Pending;
 use crate::group::{Answer, Group, order_last_first};
 use clip_front::Settings;
 use clip_match::Gate;
-use clip_words::WordPool;
 use std::alloc::Global;
 use std::collections::VecDeque;
 use std::snapshot::Snapshot;
@@ -45,8 +44,6 @@ impl Asked {
 pub struct Helped {
     /// What it found.
     pub answers: Vec<Answer>,
-    /// Its words, for the next helper.
-    pub pool: WordPool,
 }
 
 impl Promise<Helped> for Asked {
@@ -64,27 +61,20 @@ pub struct Helper {
 }
 
 /// What a helper does: it tells that it has come, before it takes an article, and takes articles until all are taken.
-fn help<G: Gate + Drop>(
-    alloc: Global,
-    group: &Group<G>,
-    mut pool: WordPool,
-    came: &AtomicBool,
-) -> Helped
+fn help<G: Gate + Drop>(alloc: Global, group: &Group<G>, came: &AtomicBool) -> Helped
     ensures { AreDue group.now.settings group.now.items.items result.answers.items }
 {
     came.store(true, SeqCst);
-    let answers = group.take_articles(alloc, &mut pool);
-    Helped { answers, pool }
+    let answers = group.take_articles(alloc);
+    Helped { answers }
 }
 
 impl Helper {
-    /// A thread that helps with the group and shares words with those of the pool, or none where no thread can be made
-    /// or memory is refused.
+    /// A thread that helps with the group, or none where no thread can be made or memory is refused.
     fn start<R: Threads, G: Gate + Drop + Send + 'static>(
         rt: &R,
         alloc: Global,
         group: &Arc<Group<G>>,
-        pool: WordPool,
     ) -> Option<Helper>
         ensures { IfSome result (IsAskedFor (arc_value group.now).settings (arc_value group.now).items.items) }
     {
@@ -98,7 +88,7 @@ impl Helper {
             return None;
         };
         let asked = Asked::of(&shared);
-        let work = move || help(alloc, &shared, pool, &told);
+        let work = move || help(alloc, &shared, &told);
         match thread::spawn_with(rt, asked, work) {
             Ok(thread) => Some(Helper { thread, came }),
             Err(_) => None,
@@ -140,8 +130,6 @@ pub struct Helpers {
     most: usize,
     /// Those that had not come when all articles of their group were taken.
     late: VecDeque<Helper>,
-    /// The words of those that have ended.
-    pools: Vec<WordPool>,
     /// What is matched of a group before a helper takes an article of it, by weight, as it was lately.
     lead: u64,
 }
@@ -175,7 +163,6 @@ impl Helpers {
             alloc,
             most: workers.saturating_sub(1) as usize,
             late: VecDeque::new(alloc),
-            pools: Vec::new(alloc),
             lead: 0,
         }
     }
@@ -223,11 +210,7 @@ impl Helpers {
             if started.reserve(1).is_err() || self.late.reserve(count).is_err() {
                 break;
             }
-            let pool = match self.pools.pop() {
-                Some(pool) => pool,
-                None => WordPool::new(alloc),
-            };
-            let Some(helper) = Helper::start(rt, alloc, group, pool) else {
+            let Some(helper) = Helper::start(rt, alloc, group) else {
                 break;
             };
             let _ = started.push(helper);
@@ -235,7 +218,7 @@ impl Helpers {
         started
     }
 
-    /// Adds what a helper found, where it has come, and keeps its words. One that has not is late.
+    /// Adds what a helper found, where it has come. One that has not is late.
     fn finish<R: Threads>(&mut self, rt: &R, helper: Helper, answers: &mut Vec<Answer>)
         ensures { AddsDue helper answers.old.items answers.new.items }
     {
@@ -245,7 +228,6 @@ impl Helpers {
         }
         let mut helped = helper.thread.join(rt);
         let _ = answers.append(&mut helped.answers);
-        let _ = self.pools.push(helped.pool);
     }
 
     /// Finishes with the last of these helpers, if there is one.
@@ -269,7 +251,6 @@ impl Helpers {
     pub fn answers<R: Threads, G: Gate + Drop + Send + 'static>(
         &mut self,
         rt: &R,
-        pool: &mut WordPool,
         group: &Arc<Group<G>>,
         load: Load,
         count: usize,
@@ -277,7 +258,7 @@ impl Helpers {
         ensures { AreDue (arc_value group.now).settings (arc_value group.now).items.items result.items }
     {
         let mut started = self.start(rt, group, count);
-        let mut answers = group.take_articles(self.alloc, pool);
+        let mut answers = group.take_articles(self.alloc);
         self.learn(load, answers.len(), started.len());
         for _ in 0..started.len() {
             self.finish_last(rt, &mut started, &mut answers);
@@ -286,15 +267,14 @@ impl Helpers {
         answers
     }
 
-    /// Takes the words of late helpers that have come since.
+    /// Joins late helpers that have come since.
     pub fn greet<R: Threads>(&mut self, rt: &R) {
         for _ in 0..self.late.len() {
             let Some(helper) = self.late.pop_front() else {
                 break;
             };
             if helper.has_come() {
-                let helped = helper.thread.join(rt);
-                let _ = self.pools.push(helped.pool);
+                let _ = helper.thread.join(rt);
             } else {
                 let _ = self.late.push_back(helper);
             }

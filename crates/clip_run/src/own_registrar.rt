@@ -6,11 +6,12 @@ ghost use Rattle.clip_standing.specs.declared.command.Refused.TheVariants as ref
 ghost use Rattle.clip_registry.specs.Plan.{AreFew};
 ghost use Rattle.clip_registry.specs.RegistryState.{beginning, state_after};
 ghost use Rattle.clip_registry.specs.Steps.Turns.{TakesTurns};
+ghost use Rattle.clip_run.specs.Unpurged.{HasMergedPaid};
 
 use crate::merging::{Merging, merged_after};
 use clip_front::Registry;
 use clip_match::Registrar;
-use clip_registry::merge_all;
+use clip_registry::{Payment, merge_all};
 use clip_standing::{Applied, Command, Refused};
 use clip_words::NoMemory;
 use std::alloc::Global;
@@ -19,12 +20,12 @@ use std::alloc::Global;
 const CALLER: u32 = 1;
 
 /// A registrar that nobody shares, as a run on one thread and an engine have it. Each accepted change is followed by
-/// merge turns.
+/// merge turns, and so are matched articles where they pay for it.
 #[derive(Drop)]
 pub struct OwnRegistrar {
     /// What is registered.
     pub registrar: Registrar,
-    /// How the merge turns after the last accepted change ended: segments are few then where none was refused memory.
+    /// How the last merge turns ended: segments were few then where none was refused memory.
     pub merges: Result<(), NoMemory>,
 }
 
@@ -58,7 +59,7 @@ impl OwnRegistrar {
     pub fn commit(&mut self, command: Command) -> Result<Applied, Refused>
         requires fits { IsTrue (fits (command_of command)) }
         ensures turns { OnOk result
-            (TakesTurns (state_after self.old.registrar 1 (command_of command)) self.new.registrar) }
+            (TakesTurns false (state_after self.old.registrar 1 (command_of command)) self.new.registrar) }
         ensures few { OnOk result (OnOk self.new.merges (AreFew self.new.registrar.segments)) }
         ensures accepted { OnOk result (self.new.registrar.history
             ≡ with_command self.old.registrar.history 1 (command_of command)) }
@@ -75,6 +76,17 @@ impl OwnRegistrar {
             Err((_, Refused::NoMemory)) => Err(Refused::NoMemory),
         }
     }
+
+    /// Takes what so many matched articles pay. Where one segment in the place of all is due by that, merge turns make
+    /// it, unless one is refused memory; what is registered stays as it is. Cost: that of `Registrar::is_merge_due`,
+    /// and of `merge_all` where one is due.
+    pub fn merge_paid(&mut self, payment: &mut Payment, matched: usize)
+        ensures { HasMergedPaid self.old self.new payment.old payment.new matched }
+    {
+        if self.registrar.is_merge_due(payment, matched) {
+            self.merges = merge_all(&mut self.registrar, true);
+        }
+    }
 }
 
 impl Merging for OwnRegistrar {
@@ -83,7 +95,7 @@ impl Merging for OwnRegistrar {
     ghost merges = { HasTakenTurns };
 
     fn have_merged(&mut self) {
-        self.merges = merge_all(&mut self.registrar);
+        self.merges = merge_all(&mut self.registrar, false);
     }
 }
 

@@ -7,5 +7,5 @@ mod making;
 mod waiting;
 
 pub use listeners::{add_listener, folder, teller};
-pub use making::{article, article_from_pool, owned, standing};
+pub use making::{article, owned, standing};
 pub use waiting::is_set_in_time;

@@ -1,7 +1,6 @@
 //! Texts, standing queries and articles.
 use clip_meaning::{Article, ArticleFault};
 use clip_standing::{Standing, StandingFault};
-use clip_words::WordPool;
 use std::alloc::{AllocError, Global};
 use std::sync::Arc;
 
@@ -36,14 +35,4 @@ fn pairs(alloc: Global, fields: &[(&str, &str)]) -> Result<Vec<(String, String)>
 /// The article of an id and of fields, each a name and a text, or why it is refused.
 pub fn article(alloc: Global, id: &str, fields: &[(&str, &str)]) -> Result<Article, ArticleFault> {
     Article::read(alloc, id, &pairs(alloc, fields)?)
-}
-
-/// The article of an id and of fields, or why it is refused, with words that are shared with those of a pool.
-pub fn article_from_pool(
-    alloc: Global,
-    pool: &mut WordPool,
-    id: &str,
-    fields: &[(&str, &str)],
-) -> Result<Article, ArticleFault> {
-    Article::read_with_pool(alloc, pool, id, &pairs(alloc, fields)?)
 }

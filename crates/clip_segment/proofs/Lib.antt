@@ -17,4 +17,3 @@ pub mod Selected
 pub mod Sent
 pub mod SeveralIndexes
 pub mod Sharing
-pub mod Texts

@@ -4,4 +4,3 @@ pub mod LabelledView
 pub mod Parts
 pub mod ReadingView
 pub mod SpotsView
-pub mod TextsView

@@ -4,18 +4,18 @@ ghost use Rattle.std.specs.Arc.{arc_value};
 ghost use Rattle.clip_segment.specs.Segment.{ids_of, heard_of};
 ghost use Rattle.clip_indexed.specs.Selecting.{flagged, kept_of};
 
+use crate::flagged_texts::{add_room, with_flagged};
 use crate::kept_terms::flags_of;
 use crate::labelled_index::LabelledIndex;
-use crate::packed_texts::{PackedTexts, Room};
 use clip_standing::Entry;
-use clip_words::NoMemory;
+use clip_words::{NoMemory, Room, Texts};
 use std::alloc::Global;
 use std::sync::Arc;
 
 /// For each of a list of entries the id of its query, and whether that has a listener.
 #[derive(Debug, Drop)]
 pub(crate) struct Labels {
-    pub(crate) ids: PackedTexts,
+    pub(crate) ids: Texts,
     pub(crate) heard: Vec<bool>,
 }
 
@@ -35,10 +35,7 @@ fn room_for(entries: &[Arc<Entry>]) -> Room {
 fn room_for_kept(sources: &[&LabelledIndex], kept: &[Vec<bool>]) -> Room {
     let mut room = NO_ROOM;
     for place in 0..sources.len() {
-        room = sources[place]
-            .labels
-            .ids
-            .add_room(flags_of(kept, place), room);
+        room = add_room(&sources[place].labels.ids, flags_of(kept, place), room);
     }
     room
 }
@@ -50,7 +47,7 @@ impl Labels {
         ensures heard { IfOk result (λ labels. labels.heard.items ≡ []) }
     {
         Ok(Labels {
-            ids: PackedTexts::with_room(alloc, room)?,
+            ids: Texts::with_room(alloc, room)?,
             heard: Vec::with_capacity(alloc, room.count)?,
         })
     }
@@ -90,7 +87,7 @@ impl Labels {
         let Labels { ids, mut heard } = self;
         add_flagged_copies(&others.heard, flags, &mut heard)?;
         Ok(Labels {
-            ids: ids.with_flagged(&others.ids, flags)?,
+            ids: with_flagged(ids, &others.ids, flags)?,
             heard,
         })
     }

@@ -5,12 +5,12 @@
 ghost use Rattle.std.specs.Prelude.{◌≡◌};
 
 mod building;
+mod flagged_texts;
 mod index_selecting;
 mod kept_terms;
 mod labelled_index;
 mod labels;
 mod marking;
-mod packed_texts;
 mod positions_read;
 mod query_index;
 mod reading;

@@ -10,7 +10,7 @@ ghost use Rattle.clip_syntax.specs.Steps.Items.{item_text, items_words, words_of
 ghost use Rattle.clip_syntax.specs.Steps.TokenOf.{token_of, IfWritten};
 
 use crate::token::{Token, begins_colon};
-use clip_words::{NoMemory, WordPool, shared_words};
+use clip_words::{NoMemory, shared_words};
 use std::alloc::Global;
 use std::sync::ArcStr;
 
@@ -40,7 +40,7 @@ pub fn item_words(alloc: Global, tokens: &[Token]) -> Result<Option<Vec<Vec<ArcS
     while let Some((token, after)) = rest.split_first() {
         rest = after;
         if let Some(text) = item_text(token, begins_colon(rest)) {
-            let words = shared_words(alloc, &mut WordPool::without_places(alloc), text)?;
+            let words = shared_words(alloc, text)?;
             if words.is_empty() {
                 return Ok(None);
             }

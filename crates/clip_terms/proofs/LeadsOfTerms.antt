@@ -60,13 +60,9 @@ short_texts_tie xs ys m n short a b same first second few =
     leads_tie xs ys m n a b same (first few ∙ sym (second few)) (omega (arith, first few, few))
 
 -- the term at a place is the key of what was read there
-pub key_at : {X : Type 0} (key : X → KeyValue) (xs : List X) (n : ℕ) (x : X) → n < length xs → x ≡ get_or xs n x
-    → (d : KeyValue) → get_or (map key xs) n d ≡ key x
-key_at key xs n x inside is d = get_or-map key xs n x d inside ∙ ap key (sym is)
-
 pub read_at : (keys : List Key) (n : ℕ) (k : Key) → n < length keys → k ≡ get_or keys n k → (d : KeyValue)
     → get_or (map key_of keys) n d ≡ key_of k
-read_at = key_at key_of
+read_at keys n k inside is d = get_or-map key_of keys n k d inside ∙ ap key_of (sym is)
 
 -- the number at a place is the one that was read there
 pub at_any : (ns : List ℕ) (i x : ℕ) → i < length ns → x ≡ get_or ns i x → get_or ns i 0 ≡ x

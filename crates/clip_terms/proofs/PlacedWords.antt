@@ -2,9 +2,10 @@
 use Rattle.std.proofs.Common.{◌≡◌, ℕ, zero, suc, ◌+◌, ◌-◌, ◌<◌, Bool, true, false, cond, List, [], ◌∷◌, ◌++◌, All}
 use Rattle.std.proofs.Common.{IsPermutation, map, length, take, drop, set, get_or, Option, Some, None}
 use Rattle.std.proofs.Common.{unwrap_or, slice_get, Vec, Global, refl, sym, ap, ◌∙◌, subst, arith, append_assoc}
-use Rattle.std.proofs.Common.{append-nil, get_or-set_same, get_or-set_other, bytes_eq, inl, inr}
+use Rattle.std.proofs.Common.{append-nil, get_or-set_same, get_or-set_other, bytes_eq, inl, inr, option_map, Bor}
+use Rattle.std.specs.Option.{option_copied}
 use Rattle.std.proofs.lemmas.Bool.{cases_eq}
-use Rattle.std.proofs.lemmas.List.{length-append, get_or_at, drop_more}
+use Rattle.std.proofs.lemmas.List.{length-append, get_or_at, get_or_default, drop_more}
 use Rattle.std.proofs.lemmas.List.Elements.{All-nil, All-cons, All-head, All-tail, All-take, All-more}
 use Rattle.std.proofs.lemmas.List.Sorted.{All-permutation, IsPermutation-sym}
 use Rattle.std.proofs.lemmas.Option.{slice_get_within}
@@ -20,6 +21,23 @@ Place = List ℕ × ℕ
 
 abbrev pub words_at : List Place → List (List ℕ)
 words_at ps = map (λ (p : Place). p.0) ps
+
+-- what is read at a place is there
+pub read_itself : (ps : List Place) (i : ℕ) (p : Place) → i < length ps → p ≡ get_or ps i ([], 0) → p ≡ get_or ps i p
+read_itself ps i p lt is = is ∙ get_or_default ps i ([], 0) p lt
+
+lent_word : (lent : Option (Bor Place)) (last : Option Place) → option_copied lent ≡ last
+    → option_map (λ (p : Bor Place). p.now.0) lent ≡ option_map (λ (p : Place). p.0) last
+lent_word None last e = ap (option_map (λ (p : Place). p.0)) e
+lent_word (Some p) last e = ap (option_map (λ (p : Place). p.0)) e
+
+-- what is added after the posting that is lent is added after its word
+pub grown_by : (lent : Option (Bor Place)) (last : Option Place) (field name word : List ℕ) (old new : List KeyValue)
+    → option_copied lent ≡ last → field ≡ name
+    → new ≡ old ++ key_added field (option_map (λ (p : Bor Place). p.now.0) lent) word
+    → new ≡ old ++ key_added name (option_map (λ (p : Place). p.0) last) word
+grown_by lent last field name word old new e same is =
+    is ∙ (λ i. old ++ key_added (same i) (lent_word lent last e i) word)
 
 -- what a vector counts is how many it has
 pub counted : {X : Type 0} (xs : Vec X Global) → length xs.items ≡ xs.len

@@ -13,7 +13,7 @@ ghost use Rattle.clip_terms.specs.Steps.WordKeys.{keys_in, AreKept};
 use crate::field_terms::FieldTerms;
 use crate::numbering::word_numbers;
 use crate::word_keys::WordKeys;
-use clip_meaning::{Article, Field, Posting};
+use clip_meaning::{Article, Field, Posting, Postings};
 use clip_words::NoMemory;
 use std::alloc::Global;
 use std::marker::Model;
@@ -40,8 +40,8 @@ impl<'a> Model for AskedField<'a> {
 
 /// Adds the key of a posting's word, unless it is that of the posting before it.
 fn add_differing<'a>(
-    posting: &'a Posting,
-    last: Option<&'a Posting>,
+    posting: &Posting<'a>,
+    last: Option<&Posting<'a>>,
     keys: &mut WordKeys<'a>,
 ) -> Result<(), NoMemory>
     requires { AreKept keys.old }
@@ -62,7 +62,7 @@ fn add_differing<'a>(
 /// Adds a key for each word of the postings that is not the word of the posting before it, and writes at each posting's
 /// position the place of its word's key.
 fn place_words<'a>(
-    postings: &'a [Posting],
+    postings: &Postings<'a>,
     keys: &mut WordKeys<'a>,
     places: &mut Vec<usize>,
 ) -> Result<(), NoMemory>
@@ -76,11 +76,12 @@ fn place_words<'a>(
     ensures placed { OnOk result (All
         (IsPlaced (arc_str_bytes keys.old.field.now) (keys_in keys.new) places.new.items) postings.now) }
 {
-    let mut last: Option<&Posting> = None;
-    for posting in postings {
-        add_differing(posting, last, keys)?;
-        last = Some(posting);
+    let mut last: Option<Posting<'a>> = None;
+    for place in 0..postings.len() {
+        let posting = postings.at(place);
+        add_differing(&posting, last.as_ref(), keys)?;
         places[posting.position()] = keys.len() - 1;
+        last = Some(posting);
     }
     Ok(())
 }
@@ -93,7 +94,7 @@ impl<'a> AskedField<'a> {
         let count = field.words().len();
         let mut keys = WordKeys::none(alloc, field.name(), count)?;
         let mut places = vec![in alloc; 0; count]?;
-        place_words(field.postings(), &mut keys, &mut places)?;
+        place_words(&field.postings(), &mut keys, &mut places)?;
         Ok(AskedField {
             field,
             keys,

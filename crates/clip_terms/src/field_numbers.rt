@@ -12,7 +12,7 @@ use crate::matching::stands_about;
 use crate::reading::number_at;
 use crate::repeats::{AT_START, Repeats};
 use crate::terms::Terms;
-use clip_meaning::{Field, FieldFlags, Posting};
+use clip_meaning::{Field, FieldFlags, Postings};
 use clip_words::NoMemory;
 use std::alloc::Global;
 use std::marker::Model;
@@ -73,13 +73,13 @@ fn add_spot(number: Option<u32>, position: usize, spots: &mut Vec<Spot>) -> Resu
 fn spots_of(
     alloc: Global,
     numbers: &[Option<u32>],
-    postings: &[Posting],
+    postings: &Postings<'_>,
 ) -> Result<Vec<Spot>, NoMemory>
     ensures { IfOk result (λ spots. spots.items ≡ spots_of numbers.now postings.now) }
 {
     let mut spots = Vec::with_capacity(alloc, postings.len())?;
-    for posting in postings {
-        let position = posting.position();
+    for place in 0..postings.len() {
+        let position = postings.position_at(place);
         add_spot(number_at(numbers, position), position, &mut spots)?;
     }
     Ok(spots)
@@ -141,7 +141,7 @@ impl FieldNumbers {
         ensures { IfOk result (λ of_field. of_field ≡ map (number_of terms.now) (field_keys field.now)) }
     {
         terms.order_law();
-        let spots = spots_of(alloc, &numbers, field.postings())?;
+        let spots = spots_of(alloc, &numbers, &field.postings())?;
         Ok(FieldNumbers { numbers, spots })
     }
 

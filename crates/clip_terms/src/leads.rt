@@ -1,10 +1,10 @@
 //! Keys by rank, field and text, and the leads and lengths of their texts.
 ghost use Rattle.std.specs.Prelude.{◌≡◌, IfOk, map};
-ghost use Rattle.std.specs.Arc.{arc_str_bytes};
 ghost use Rattle.clip_words.specs.Order.{bytes_cmp};
 ghost use Rattle.clip_meaning.specs.Leads.{IsLead};
 ghost use Rattle.clip_extract.specs.Keys.{key_of, text_of};
 ghost use Rattle.clip_terms.specs.Steps.Leads.{heading, heading_cmp, AreLeads, IsShortLength, AreShortLengths};
+ghost use Rattle.clip_terms.specs.Steps.Sought.{text_sought};
 
 use clip_extract::Key;
 use clip_meaning::{compare_by_leads, lead_of};
@@ -51,7 +51,7 @@ pub(crate) fn lengths_of(alloc: Global, keys: &[Key]) -> Result<Vec<u8>, NoMemor
 }
 
 /// A text, or a word whose text is not looked at before it has to be.
-#[derive(Drop)]
+#[derive(Clone, Copy)]
 pub(crate) enum SoughtText<'a> {
     /// A text.
     Text(&'a str),
@@ -92,17 +92,13 @@ impl<'a> Sought<'a> {
         }
     }
 
-    /// Looks for a word of this lead and this short length, and does not look at its text.
-    pub(crate) fn with(word: &'a ArcStr, lead: u64, length: u8) -> Sought<'a>
-        requires lead { IsLead (arc_str_bytes word.now) lead }
-        requires length { IsShortLength (arc_str_bytes word.now) length }
-        ensures { result ≡ arc_str_bytes word.now }
+    /// Looks for a text of this lead and this short length, and does not look at it.
+    pub(crate) fn with(text: SoughtText<'a>, lead: u64, length: u8) -> Sought<'a>
+        requires lead { IsLead (text_sought text) lead }
+        requires length { IsShortLength (text_sought text) length }
+        ensures { result ≡ text_sought text.entry }
     {
-        Sought {
-            text: SoughtText::Word(word),
-            lead,
-            length,
-        }
+        Sought { text, lead, length }
     }
 
     /// The text.

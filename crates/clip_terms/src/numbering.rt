@@ -1,7 +1,6 @@
 //! The numbers of an article's keys.
 ghost use Rattle.std.specs.Prelude.{◌≡◌, ◌++◌, [], ◌<◌, IfOk, OnOk, length, map, slice_index};
 ghost use Rattle.std.specs.Prelude.{option_map, option_to_list};
-ghost use Rattle.std.specs.Arc.{arc_str_bytes};
 ghost use Rattle.std.specs.List.Sorted.{IsStrictlySortedBy};
 ghost use Rattle.clip_extract.specs.Keys.{Word, Front, key_of, key_cmp, text_of};
 ghost use Rattle.clip_extract.specs.Fronts.{fronts};
@@ -12,30 +11,30 @@ ghost use Rattle.clip_meaning.specs.Leads.{IsLead};
 ghost use Rattle.clip_terms.specs.Steps.Leads.{AreLeads, IsShortLength, AreShortLengths};
 ghost use Rattle.clip_terms.specs.Steps.Numbers.{known};
 ghost use Rattle.clip_terms.specs.Steps.Fronts.{other_fronts, asked_fronts, AddsNumbersOf};
+ghost use Rattle.clip_terms.specs.Steps.Sought.{text_sought};
 
 use crate::field_terms::FieldTerms;
-use crate::leads::Sought;
+use crate::leads::{Sought, SoughtText};
 use crate::likely::LikelyPlaces;
 use crate::terms::Terms;
 use clip_extract::{Fronts, Key};
-use clip_meaning::{Field, Posting};
+use clip_meaning::{Field, Postings};
 use clip_words::NoMemory;
 use std::alloc::Global;
-use std::sync::ArcStr;
 
 /// The number of a word of a field, none of one that is no term. The first of these leads is that of the word, whose
 /// short length this is, and the others are likely those of the words after it.
 fn word_number(
     of_field: &FieldTerms<'_>,
     likely: &mut LikelyPlaces,
-    word: &ArcStr,
+    word: SoughtText<'_>,
     leads: &[u64],
     short: u8,
 ) -> Option<u32>
     requires some { 0 < length leads.now }
-    requires lead { IsLead (arc_str_bytes word.now) (slice_index leads.now 0) }
-    requires short { IsShortLength (arc_str_bytes word.now) short }
-    ensures { result ≡ number_of of_field.now.terms (Word of_field.now.field (arc_str_bytes word.now)) }
+    requires lead { IsLead (text_sought word) (slice_index leads.now 0) }
+    requires short { IsShortLength (text_sought word) short }
+    ensures { result ≡ number_of of_field.now.terms (Word of_field.now.field (text_sought word.entry)) }
 {
     let place = likely.next(of_field, leads);
     of_field.word_near(&Sought::with(word, leads[0], short), place)
@@ -46,22 +45,22 @@ fn word_number(
 pub(crate) fn word_numbers(
     alloc: Global,
     of_field: &FieldTerms<'_>,
-    words: &[&ArcStr],
+    words: &[&str],
     leads: &[u64],
     lengths: &[u8],
 ) -> Result<Vec<Option<u32>>, NoMemory>
-    requires leads { AreLeads (map (λ w. Word of_field.now.field (arc_str_bytes w.now)) words.now) leads.now }
-    requires lengths { AreShortLengths
-        (map (λ w. Word of_field.now.field (arc_str_bytes w.now)) words.now) lengths.now }
+    requires leads { AreLeads (map (λ w. Word of_field.now.field w.now) words.now) leads.now }
+    requires lengths { AreShortLengths (map (λ w. Word of_field.now.field w.now) words.now) lengths.now }
     ensures { IfOk result (λ numbers. numbers.items ≡ map (number_of of_field.now.terms)
-        (map (λ w. Word of_field.now.field (arc_str_bytes w.now)) words.now)) }
+        (map (λ w. Word of_field.now.field w.now) words.now)) }
 {
     let mut numbers = Vec::with_capacity(alloc, words.len())?;
     let mut likely = LikelyPlaces::none();
     for place in 0..words.len() {
+        let word = SoughtText::Text(words[place]);
         let from = &leads[place..];
         let short = lengths[place];
-        numbers.push(word_number(of_field, &mut likely, words[place], from, short))?;
+        numbers.push(word_number(of_field, &mut likely, word, from, short))?;
     }
     Ok(numbers)
 }
@@ -91,7 +90,7 @@ fn key_number<'a>(
         *of_field = terms.of_field(field);
         likely.clear();
     }
-    word_number(of_field, likely, word, leads, short)
+    word_number(of_field, likely, SoughtText::Word(word), leads, short)
 }
 
 /// The numbers of keys, beside which their leads and short lengths are given, in order; none of a key that is no term.
@@ -171,7 +170,7 @@ fn add_word_fronts(
 /// Adds the numbers of the fronts of a field's words, of each word those that the word before it does not have.
 fn add_posting_fronts(
     of_field: &FieldTerms<'_>,
-    postings: &[Posting],
+    postings: &Postings<'_>,
     numbers: &mut Vec<u32>,
 ) -> Result<(), NoMemory>
     ensures { OnOk result (numbers.new.items ≡ numbers.old.items
@@ -179,8 +178,9 @@ fn add_posting_fronts(
         (map (Front of_field.now.field) (asked_fronts [] (map (λ p. p.0) postings.now))))) }
 {
     let mut last = "";
-    for posting in postings {
-        let word = posting.word().as_str();
+    for place in 0..postings.len() {
+        let posting = postings.at(place);
+        let word = posting.word();
         if word == last {
             continue;
         }
@@ -207,9 +207,11 @@ pub(crate) fn add_field_fronts(
     ensures { OnOk result
         (AddsNumbersOf of_field.now.terms (front_keys field.now) numbers.old.items numbers.new.items) }
 {
-    if of_field.front_count() / FRONTS_FOR_A_WORD <= field.words().len() {
+    let words = field.words();
+    words.utf8_law();
+    if of_field.front_count() / FRONTS_FOR_A_WORD <= words.len() {
         return of_field.add_fronts_of(field, leads, numbers);
     }
-    add_posting_fronts(of_field, field.postings(), numbers)?;
+    add_posting_fronts(of_field, &field.postings(), numbers)?;
     Ok(())
 }

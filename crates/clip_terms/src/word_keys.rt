@@ -1,4 +1,4 @@
-//! The keys of the words of a field, which share the texts of its postings.
+//! The keys of the words of a field, which borrow the texts of its postings.
 ghost use Rattle.std.specs.Prelude.{◌≡◌, ◌++◌, [], ◌∷◌, length, IfOk, OnOk};
 ghost use Rattle.std.specs.Arc.{arc_str_bytes};
 ghost use Rattle.clip_extract.specs.Keys.{Word};
@@ -14,7 +14,7 @@ use std::sync::ArcStr;
 #[derive(Drop)]
 pub(crate) struct WordKeys<'a> {
     pub(crate) field: &'a ArcStr,
-    pub(crate) words: Vec<&'a ArcStr>,
+    pub(crate) words: Vec<&'a str>,
     pub(crate) leads: Vec<u64>,
     pub(crate) lengths: Vec<u8>,
 }
@@ -39,7 +39,7 @@ impl<'a> WordKeys<'a> {
     }
 
     /// Adds the key of a posting's word.
-    pub(crate) fn push(&mut self, posting: &'a Posting) -> Result<(), NoMemory>
+    pub(crate) fn push(&mut self, posting: &Posting<'a>) -> Result<(), NoMemory>
         requires { AreKept self.old }
         ensures added { OnOk result (keys_in self.new
             ≡ keys_in self.old ++ Word (arc_str_bytes self.old.field.now) posting.now.0 ∷ []) }

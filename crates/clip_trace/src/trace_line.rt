@@ -15,7 +15,7 @@ use clip_protocol::{
     may_delete, may_register, read_listing, read_value,
 };
 use clip_standing::{Command, Standing};
-use clip_words::{NoMemory, WordPool};
+use clip_words::NoMemory;
 use serde_json::Value;
 use std::alloc::Global;
 use std::sync::Arc;
@@ -137,10 +137,7 @@ impl TraceLine {
     {
         let (batch, drafts) = batch_of(alloc, value)?;
         let drafts = judge_drafts(alloc, drafts)?;
-        Ok(TraceLine::Event(Event::Look(
-            batch,
-            articles_of(alloc, &mut WordPool::new(alloc), &drafts)?,
-        )))
+        Ok(TraceLine::Event(Event::Look(batch, articles_of(alloc, &drafts)?)))
     }
 
     /// What a request of a run says by this caller: a command, or a purge, which has no caller.

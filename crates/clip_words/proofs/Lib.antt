@@ -1,3 +1,6 @@
 pub mod Folding
 pub mod Boundaries
 pub mod Splits
+pub mod Cuts
+pub mod ItemsLeft
+pub mod PackedTexts

@@ -1,2 +1,3 @@
 -- What the proofs of this crate go through; no public clause cites it.
 pub mod Fronts
+pub mod TextsView

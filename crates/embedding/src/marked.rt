@@ -26,8 +26,11 @@ fn add_word(text: &mut String, word: &str, is_marked: bool) -> Result<(), NoMemo
 pub fn marked(alloc: Global, alert: &Alert, field: &str) -> Result<String, NoMemory> {
     let hits = alert.hits(alloc)?;
     let mut text = String::new(alloc);
-    for (position, word) in alert.article().field(field).iter().enumerate() {
-        add_word(&mut text, word, is_hit(&hits, field, position as u64))?;
+    let words = alert.article().field(field);
+    for position in 0..words.len() {
+        if let Some(word) = words.get(position) {
+            add_word(&mut text, word, is_hit(&hits, field, position as u64))?;
+        }
     }
     Ok(text)
 }

@@ -1,7 +1,6 @@
 //! Articles: worked examples.
 use clip_meaning::{Article, ArticleFault, Field};
-use clip_samples::{article, article_from_pool};
-use clip_words::WordPool;
+use clip_samples::article;
 use std::alloc::{AllocError, Global};
 use std::test::Fail;
 
@@ -11,7 +10,7 @@ type Fields = &'static [(&'static str, &'static str)];
 /// Rows: an id, fields, and the article or why it is refused: its id, and of each field the name, the words, and
 /// the postings, each a word and its position.
 #[rattlefmt::skip]
-static ARTICLES: [(&str, Fields, &str); 21] = [
+static ARTICLES: [(&str, Fields, &str); 24] = [
     (
         "a1",
         &[("title", "Green Tea"), ("body", "tea, TEA and milk")],
@@ -23,12 +22,44 @@ static ARTICLES: [(&str, Fields, &str); 21] = [
         "a2 [text: tea tea and milk tea and a teapot; a@6 and@2 and@5 milk@3 tea@0 tea@1 tea@4 teapot@7]",
     ),
     ("a3", &[], "a3"),
-    // in a pool bread and lily have one place, and berry and money
     ("a4", &[("text", "Bread, lily; bread")], "a4 [text: bread lily bread; bread@0 bread@2 lily@1]"),
     (
         "a5",
         &[("text", "Bread: money, berry, money, lily")],
         "a5 [text: bread money berry money lily; berry@2 bread@0 lily@4 money@1 money@3]",
+    ),
+    // words that repeat
+    (
+        "a6",
+        &[("text", "to be or not to be that is the question whether tis nobler in the mind to suffer the slings \
+                   and arrows of outrageous fortune or to take arms against a sea of troubles")],
+        "a6 [text: to be or not to be that is the question whether tis nobler in the mind to suffer \
+         the slings and arrows of outrageous fortune or to take arms against a sea of troubles; a@30 \
+         against@29 and@20 arms@28 arrows@21 be@1 be@5 fortune@24 in@13 is@7 mind@15 nobler@12 not@3 \
+         of@22 of@32 or@2 or@25 outrageous@23 question@9 sea@31 slings@19 suffer@17 take@27 that@6 \
+         the@8 the@14 the@18 tis@11 to@0 to@4 to@16 to@26 troubles@33 whether@10]",
+    ),
+    // words of the same first letters, the last first
+    (
+        "a6",
+        &[("text", "w49 w48 w47 w46 w45 w44 w43 w42 w41 w40 w39 w38 w37 w36 w35 w34 w33 w32 w31 w30 w29 w28 w27 \
+                   w26 w25 w24 w23 w22 w21 w20 w19 w18 w17 w16 w15 w14 w13 w12 w11 w10")],
+        "a6 [text: w49 w48 w47 w46 w45 w44 w43 w42 w41 w40 w39 w38 w37 w36 w35 w34 w33 w32 w31 w30 \
+         w29 w28 w27 w26 w25 w24 w23 w22 w21 w20 w19 w18 w17 w16 w15 w14 w13 w12 w11 w10; w10@39 \
+         w11@38 w12@37 w13@36 w14@35 w15@34 w16@33 w17@32 w18@31 w19@30 w20@29 w21@28 w22@27 w23@26 \
+         w24@25 w25@24 w26@23 w27@22 w28@21 w29@20 w30@19 w31@18 w32@17 w33@16 w34@15 w35@14 w36@13 \
+         w37@12 w38@11 w39@10 w40@9 w41@8 w42@7 w43@6 w44@5 w45@4 w46@3 w47@2 w48@1 w49@0]",
+    ),
+    // words with digits, marks and letters beyond z, and of eight letters and more
+    (
+        "a6",
+        &[("text", "étude zebra 1984 _x tea teapot the then there them z9 7up it its i über ab abc abcdefgh \
+                   abcdefghi abcdefghj abcdefgh ab a at as are area arena b bb ba 10 1")],
+        "a6 [text: étude zebra 1984 _x tea teapot the then there them z9 7up it its i über ab abc \
+         abcdefgh abcdefghi abcdefghj abcdefgh ab a at as are area arena b bb ba 10 1; 1@33 10@32 \
+         1984@2 7up@11 _x@3 a@23 ab@16 ab@22 abc@17 abcdefgh@18 abcdefgh@21 abcdefghi@19 \
+         abcdefghj@20 are@26 area@27 arena@28 as@25 at@24 b@29 ba@31 bb@30 i@14 it@12 its@13 tea@4 \
+         teapot@5 the@6 them@9 then@7 there@8 z9@10 zebra@1 étude@0 über@15]",
     ),
     // names
     ("a1", &[("9a", "tea")], "Field"),
@@ -87,7 +118,9 @@ fn add_field(text: &mut String, article: &Article, field: &Field) -> Result<(), 
         write!(text, " {word}")?;
     }
     text.push_str(";")?;
-    for posting in field.postings() {
+    let postings = field.postings();
+    for place in 0..postings.len() {
+        let posting = postings.at(place);
         let (word, position) = (posting.word(), posting.position());
         write!(text, " {word}@{position}")?;
     }
@@ -123,13 +156,9 @@ fn article_or_fault(
 fn an_article_has_the_words_and_the_postings_of_each_field_by_name(
     rt: HostRuntime,
 ) -> Result<(), Fail> {
-    let mut pool = WordPool::new(rt.alloc());
     for (id, fields, wanted) in &ARTICLES {
         let told = article_or_fault(rt.alloc(), article(rt.alloc(), id, fields))?;
         assert!(rt; told.as_str() == *wanted, "{told}");
-        let sharing = article_from_pool(rt.alloc(), &mut pool, id, fields);
-        let told = article_or_fault(rt.alloc(), sharing)?;
-        assert!(rt; told.as_str() == *wanted, "with a pool: {told}");
     }
     Ok(())
 }

@@ -170,7 +170,7 @@ fn segments_after(
 ) -> Result<usize, Fail> {
     let command = numbered(alloc, from, to)?;
     answer(alloc, registrar, 1, command)?;
-    merge_all(registrar)?;
+    merge_all(registrar, false)?;
     Ok(registrar.view()?.segments().len())
 }
 

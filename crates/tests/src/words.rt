@@ -1,5 +1,5 @@
 //! Folding and the words of texts.
-use clip_words::{NoMemory, WordPool, fold, shared_words, words};
+use clip_words::{NoMemory, fold, packed_words, shared_words, words};
 use std::alloc::{AllocError, Global};
 use std::test::Fail;
 
@@ -29,9 +29,19 @@ fn cut(alloc: Global, text: &str) -> Result<String, NoMemory> {
     Ok(told)
 }
 
+/// The packed words of a text, with a bar after each.
+fn cut_packed(alloc: Global, text: &str) -> Result<String, NoMemory> {
+    let words = packed_words(alloc, text)?;
+    let mut told = String::new(alloc);
+    for word in &words {
+        add_word(&mut told, word)?;
+    }
+    Ok(told)
+}
+
 /// The shared words of a text, with a bar after each.
-fn cut_shared(alloc: Global, pool: &mut WordPool, text: &str) -> Result<String, NoMemory> {
-    let words = shared_words(alloc, pool, text)?;
+fn cut_shared(alloc: Global, text: &str) -> Result<String, NoMemory> {
+    let words = shared_words(alloc, text)?;
     let mut told = String::new(alloc);
     for word in &words {
         add_word(&mut told, word)?;
@@ -41,13 +51,10 @@ fn cut_shared(alloc: Global, pool: &mut WordPool, text: &str) -> Result<String, 
 
 #[test]
 fn words_are_cut_at_unicode_boundaries_and_folded(rt: HostRuntime) -> Result<(), Fail> {
-    let mut pool = WordPool::new(rt.alloc());
     for (text, wanted, _) in &ROWS {
         assert!(rt; cut(rt.alloc(), text)?.as_str() == *wanted, "{text}");
-        assert!(rt;
-            cut_shared(rt.alloc(), &mut pool, text)?.as_str() == *wanted,
-            "{text}"
-        );
+        assert!(rt; cut_packed(rt.alloc(), text)?.as_str() == *wanted, "{text}");
+        assert!(rt; cut_shared(rt.alloc(), text)?.as_str() == *wanted, "{text}");
     }
     Ok(())
 }

@@ -31,6 +31,6 @@ is_within_run (Some start) count position = is_within start count position
 abbrev pub GivesStarts : {X : Type 0} → (Bor X → Option ℕ → Type 0) → (X → Option ℕ) → Type 0
 GivesStarts {X} answers start = (x : Bor X) (found : Option ℕ) → answers x found → found ≡ start x.now
 
--- where a phrase starts that begins at a posting of the words, if it does
-abbrev pub start_at : (words phrase : List (List ℕ)) → List ℕ × ℕ → Option ℕ
-start_at words phrase p = cond (starts_with bytes_eq (drop p.1 words) phrase) (Some p.1) None
+-- where a phrase starts that begins at a position of the words, if it does
+abbrev pub start_at : (words phrase : List (List ℕ)) → (position : ℕ) → Option ℕ
+start_at words phrase position = cond (starts_with bytes_eq (drop position words) phrase) (Some position) None

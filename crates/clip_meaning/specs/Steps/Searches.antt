@@ -9,6 +9,6 @@ use Rattle.clip_meaning.specs.Meaning.{above}
 abbrev pub from_low : End → List (List ℕ × ℕ) → List (List ℕ × ℕ)
 from_low low postings = drop (prefix_len (λ p. not (above low p.0)) postings) postings
 
--- a phrase begins at a posting of the words
-abbrev pub stands_at : List (List ℕ) → List (List ℕ) → List ℕ × ℕ → Bool
-stands_at words phrase p = starts_with bytes_eq (drop p.1 words) phrase
+-- a phrase begins at a position of the words
+abbrev pub stands_at : List (List ℕ) → List (List ℕ) → ℕ → Bool
+stands_at words phrase position = starts_with bytes_eq (drop position words) phrase

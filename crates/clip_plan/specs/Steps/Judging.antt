@@ -72,6 +72,14 @@ marked place (Open occur inside) held top around = (no_clauses (place + 1 + insi
 marked place (Close occur) held top [] = (top, [])
 marked place (Close occur) held top (next ∷ around) = (counted next occur (tally_holds top), around)
 
+-- a leaf that may hold, and does not
+abbrev pub is_absent : Fields → Mark KeyValue → Bool
+is_absent fields (Leaf Must asks) = false
+is_absent fields (Leaf Should asks) = not (leaf_holds fields asks)
+is_absent fields (Leaf MustNot asks) = false
+is_absent fields (Open occur inside) = false
+is_absent fields (Close occur) = false
+
 -- how many marks are passed at a mark: all of a clause that changes nothing
 abbrev pub passed : {K : Type 0} → Tally → Mark K → ℕ
 passed top (Leaf occur asks) = cond (is_needless top occur) 1 0

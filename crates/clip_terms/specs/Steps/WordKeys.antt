@@ -7,7 +7,7 @@ use Rattle.clip_terms.specs.declared.word_keys.WordKeys.{WordKeys}
 
 -- the keys, in order
 abbrev pub keys_in : WordKeys → List KeyValue
-keys_in keys = map (λ word. Word (arc_str_bytes keys.field.now) (arc_str_bytes word.now)) keys.words.items
+keys_in keys = map (λ word. Word (arc_str_bytes keys.field.now) word.now) keys.words.items
 
 -- The leads and the short lengths are those of the words.
 pub record AreKept (keys : WordKeys) : Type 0 where

@@ -73,19 +73,52 @@ fn run_nudges<N: DeskName, R: Wait + Abort>(rt: &R, alloc: Global, parts: DeskPa
     requires keeps { parts.keeps ≡ N.keeps }
 {
     let (desk, mut seat) = open_with_four::<N, _>(rt, alloc, parts);
-    serve_two(rt, alloc, &desk);
+    serve_each(rt, alloc, &desk, &[Nudge::Merge, Nudge::Stop]);
     sees_inside(rt, &mut seat, (1, 4));
     desk.end(rt);
 }
 
-/// Serves a channel that holds `Merge` and `Stop`.
-fn serve_two<N: DeskName, R: Wait + Abort>(rt: &R, alloc: Global, desk: &Desk<N>) {
+/// Serves a channel that holds these nudges, and is closed behind them.
+fn serve_each<N: DeskName, R: Wait + Abort>(
+    rt: &R,
+    alloc: Global,
+    desk: &Desk<N>,
+    standing: &[Nudge],
+) {
     let (sender, nudges) = match unbounded(alloc) {
         Ok(ends) => ends,
         Err(_) => panic!(rt; "no channel"),
     };
-    assert!(rt; sender.send(rt, Nudge::Merge).is_ok(), "sent");
-    assert!(rt; sender.send(rt, Nudge::Stop).is_ok(), "sent");
+    for nudge in standing {
+        assert!(rt; sender.send(rt, *nudge).is_ok(), "sent");
+    }
+    drop(sender);
     desk.serve_merges(rt, &nudges);
     assert!(rt; nudges.len() == 0);
+}
+
+#[test]
+fn matched_articles_pay_for_one_segment(rt: HostRuntime) -> Result<(), Fail> {
+    let parts = parts_of(&rt, rt.alloc(), 1, 1)?;
+    run_matched::<Brand, _>(&rt, rt.alloc(), parts);
+    Ok(())
+}
+
+/// Four segments of one entry each, then one of four and one of one: an article pays 1 for the second, so the fifth
+/// pays for all.
+fn run_matched<N: DeskName, R: Wait + Abort>(rt: &R, alloc: Global, parts: DeskParts)
+    requires book { (parts.book ≡ N.book) × (parts.callers ≡ N.callers) }
+    requires heard { N.heard_before ≡ all_heard parts.updates }
+    requires keeps { parts.keeps ≡ N.keeps }
+{
+    let (desk, mut seat) = open_with_four::<N, _>(rt, alloc, parts);
+    serve_each(rt, alloc, &desk, &[Nudge::Merge]);
+    commit(rt, &desk, &mut seat, register(rt, alloc, "q5", "coffee"));
+    serve_each(rt, alloc, &desk, &[Nudge::Merge, Nudge::Matched(4)]);
+    sees_inside(rt, &mut seat, (2, 5));
+    serve_each(rt, alloc, &desk, &[Nudge::Matched(5), Nudge::Stop]);
+    sees_inside(rt, &mut seat, (2, 5));
+    serve_each(rt, alloc, &desk, &[Nudge::Matched(2), Nudge::Matched(3)]);
+    sees_inside(rt, &mut seat, (1, 5));
+    desk.end(rt);
 }

@@ -1,7 +1,7 @@
-use Rattle.std.proofs.Common.{◌≡◌, ◌∙◌, ◌||◌, ◌<◌, ◌++◌, ℕ, [], OnOk, ap, sym, subst, arith, false, get_or, length, map}
+use Rattle.std.proofs.Common.{◌≡◌, ◌∙◌, ◌||◌, ◌<◌, ◌++◌, ℕ, [], OnOk, ap, subst, arith, false, get_or, length, map}
 use Rattle.std.proofs.Common.{replicate}
 use Rattle.std.specs.Arc.{arc_str_bytes}
-use Rattle.std.proofs.lemmas.List.{get_or-replicate, length-map, length-replicate}
+use Rattle.std.proofs.lemmas.List.{get_or-replicate, length-replicate}
 use Rattle.clip_grammar.specs.Tree.{tree_of}
 use Rattle.clip_meaning.specs.Hits.{hit_value, hits_in, is_named}
 use Rattle.clip_meaning.specs.Steps.Marks.{is_up, raised}
@@ -13,9 +13,8 @@ pub returns : goal.returns
 returns c =
     let tree = tree_of c.args.query.now in
     let field = c.args.field.now in
-    let count = length c.words.result.now in
-    let words : count ≡ length field.1 = sym (length-map c.words.result.now arc_str_bytes)
-    ∙ ap length c.words.ensures in
+    let count = c.len.result in
+    let words : count ≡ length field.1 = c.len.ensures ∙ ap length c.words.ensures in
     let start : c.restart.new.self ≡ replicate count 0 = c.in_ok-restart.ensures.ok in
     let started : length c.restart.new.self ≡ count = ap length start ∙ length-replicate count 0 in
     let down : (k : ℕ) → k < count → is_up (get_or c.restart.new.self k 0) ≡ false =

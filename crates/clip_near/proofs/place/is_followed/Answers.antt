@@ -1,6 +1,4 @@
-use Rattle.std.proofs.Common.{map, sym, ◌∙◌, arith}
-use Rattle.std.proofs.lemmas.List.{length-map}
-use Rattle.std.specs.Arc.{arc_str_bytes}
+use Rattle.std.proofs.Common.{sym, ◌∙◌, arith}
 use Rattle.clip_grammar.specs.Tree.{tree_of}
 use Rattle.clip_near.specs.Near.{stand_close}
 use Rattle.clip_near.proofs.Ends.{found_here, not_here, none_upto, none_close}
@@ -10,7 +8,7 @@ pub loop-position-preserved : goal.loop-position-preserved
 loop-position-preserved c =
     let first = tree_of c.args.first.now in
     let second = tree_of c.args.second.now in
-    let words = map arc_str_bytes c.args.words.now in
+    let words = c.args.words.now in
     let here = not_here c.args.between first second words c.loop-position.position c.last_end-end.result
     c.last_end-end.ensures (sym c.stands_behind.ensures ∙ c.if-stands_behind.false) in
     record {
@@ -22,12 +20,11 @@ loop-position-preserved c =
 pub returns-then-stands_behind : goal.returns-then-stands_behind
 returns-then-stands_behind c =
     sym (found_here c.args.between (tree_of c.args.first.now) (tree_of c.args.second.now)
-    (map arc_str_bytes c.args.words.now) c.loop-position.position c.last_end-end.result c.last_end-end.ensures
+    c.args.words.now c.loop-position.position c.last_end-end.result c.last_end-end.ensures
     (sym c.stands_behind.ensures ∙ c.if-stands_behind.true))
 
 pub returns : goal.returns
 returns c =
-    let words = map arc_str_bytes c.args.words.now in
-    let long = length-map c.args.words.now arc_str_bytes in
-    sym (none_close c.args.between (tree_of c.args.first.now) (tree_of c.args.second.now) words
-    (λ i j lt. c.loop-position.invariant.none i j (omega (arith, lt, long))))
+    sym (none_close c.args.between (tree_of c.args.first.now) (tree_of c.args.second.now) c.args.words.now
+    (λ i j lt. c.loop-position.invariant.none i j
+    (omega (arith, lt, c.len-position-end.ensures, c.loop-position-test.false))))

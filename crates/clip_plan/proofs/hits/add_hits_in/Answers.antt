@@ -2,7 +2,7 @@ use Rattle.std.proofs.Common.{◌≡◌, ◌∙◌, ◌||◌, ◌++◌, ◌<◌,
 use Rattle.std.proofs.Common.{replicate, append-nil}
 use Rattle.std.specs.Prelude.{unwrap_or, slice_get}
 use Rattle.std.specs.Arc.{arc_str_bytes}
-use Rattle.std.proofs.lemmas.List.{get_or-replicate, length-map, length-replicate}
+use Rattle.std.proofs.lemmas.List.{get_or-replicate, length-replicate}
 use Rattle.clip_grammar.specs.Tree.{Tree}
 use Rattle.clip_meaning.specs.Hits.{hit_value, hits_in, is_named}
 use Rattle.clip_meaning.specs.Steps.Marks.{is_up, raised}
@@ -21,8 +21,9 @@ returns-then-not-may_name c = λ tree plan.
 pub returns : goal.returns
 returns c =
     let field = c.args.spots.now.field in
-    let count = length c.words.result.now in
-    let words : count ≡ length field.1 = sym (length-map c.words.result.now arc_str_bytes) ∙ ap length c.words.ensures
+    let count = c.len.result in
+    let words : count ≡ length field.1 =
+    c.len.ensures ∙ ap length c.words.ensures
     ∙ ap (λ (f : List ℕ × List (List ℕ)). length f.1) c.field-field.ensures in
     let flags = c.restart.new.self in
     let start : flags ≡ replicate count 0 = c.in_ok-restart.ensures.ok in

@@ -4,7 +4,7 @@ use Rattle.clip_registry.proofs.turn.merge_all.Given as goal
 
 abbrev pub invariant-loop : goal.invariant-loop
 invariant-loop g l = record {
-  turns : TakesTurns l.fn.registrar l.registrar;
+  turns : TakesTurns l.to_one l.fn.registrar l.registrar;
   history : l.registrar.history ≡ l.fn.registrar.history;
 }
 

@@ -22,7 +22,7 @@ returns-in_err-lines g c =
       honest = search rules;
       front = on_err c.from_residual-in_err-lines.result
           (alone_gives_front hearers (
-            record { registry = registry; giver = c.new-2.result },
+            record { registry = registry; payment = c.towards.result; giver = c.new-2.result },
             c.args.audience.now,
           ) (c.serve.new.server, c.serve.new.lent) began c.args.settings
           (g.R.Source.left c.args.reader.now) (g.R.Source.left c.serve.new.reader)
@@ -34,7 +34,7 @@ returns-in_err-lines g c =
           let held = c.in_err-lines.ensures.none_held (ap Err (cc (failed, on.1, on.2))) in (
             held.0,
             alone_gives_lines hearers (
-              record { registry = registry; giver = c.new-2.result },
+              record { registry = registry; payment = c.towards.result; giver = c.new-2.result },
               c.args.audience.now,
             ) (c.serve.new.server, c.serve.new.lent) began c.args.settings
                 (g.R.Source.left c.args.reader.now) (g.R.Source.left c.serve.new.reader)
@@ -51,7 +51,7 @@ returns g c =
     ran_again (map (λ line. line.items) c.args.kept.items) c.args.settings _ _ _ _ began
     (ap (λ s. s.history) c.new.ensures.registrar) c.in_ok-take_kept.ensures (record {
       outcome = rw c.into_ledger.ensures (alone_gives hearers (
-        record { registry = registry; giver = c.new-2.result },
+        record { registry = registry; payment = c.towards.result; giver = c.new-2.result },
         c.args.audience.now,
       ) (c.serve.new.server, c.serve.new.lent) began c.args.settings
           (g.R.Source.left c.args.reader.now) (g.W.Sink.taken c.args.writer.now) (g.W.Sink.taken c.serve.new.writer)

@@ -1,14 +1,16 @@
 use Rattle.std.proofs.Common.{◌<◌, ◌-◌, ◌∷◌, ◌++◌, [], List, map, length, take, get_or, sym, ap, subst, ◌∙◌, arith}
-use Rattle.std.proofs.Common.{Bor, Global}
-use Rattle.std.specs.Arc.{arc_str_bytes}
-use Rattle.std.specs.declared.sync.ArcStr.{ArcStr}
-use Rattle.std.proofs.lemmas.List.{length-map, map_more, map_push, take_all}
+use Rattle.std.proofs.Common.{Bor, ℕ}
+use Rattle.std.proofs.lemmas.List.{length-map, get_or-map, map_more, map_push, take_all}
 use Rattle.clip_meaning.specs.Leads.{IsLead}
 use Rattle.clip_extract.specs.Keys.{KeyValue, Word, text_of}
 use Rattle.clip_terms.specs.Terms.{number_of}
 use Rattle.clip_terms.specs.Steps.Leads.{IsShortLength}
-use Rattle.clip_terms.proofs.LeadsOfTerms.{leads_long, lead_at, lengths_long, length_at, key_at, some_left, first_left}
+use Rattle.clip_terms.proofs.LeadsOfTerms.{leads_long, lead_at, lengths_long, length_at, some_left, first_left}
 use Rattle.clip_terms.proofs.numbering.word_numbers.Goals as goal
+
+-- what is read past the last word
+abbrev no_word : Bor (List ℕ)
+no_word = record { ref_ptr = (0, 0); now = [] }
 
 pub loop-place-init : goal.loop-place-init
 loop-place-init c = c.in_ok-numbers.ensures.items
@@ -17,27 +19,25 @@ pub loop-place-preserved : goal.loop-place-preserved
 loop-place-preserved c =
     let words = c.args.words.now in
     let i = c.loop-place.place in
-    let word = c.index-words-place.result in
     let number = number_of c.args.of_field.now.terms in
-    let key = λ (w : Bor (ArcStr Global)). Word c.args.of_field.now.field (arc_str_bytes w.now) in
+    let key = λ (w : Bor (List ℕ)). Word c.args.of_field.now.field w.now in
     let before = map key (take i words) in
     c.in_ok-push.ensures.items
     ∙ ap (λ numbers. numbers ++ c.word_number.result ∷ []) c.loop-place.invariant
-    ∙ ap (λ n. map number before ++ n ∷ []) (c.word_number.ensures
-    ∙ ap (λ (w : Bor (ArcStr Global)). number (key w)) c.index-words-place.is)
-    ∙ sym (ap (map number) (map_more key words i word c.loop-place-test.true)
-    ∙ map_push number before (key (get_or words i word)))
+    ∙ ap (λ n. map number before ++ n ∷ []) c.word_number.ensures
+    ∙ sym (ap (map number) (map_more key words i no_word c.loop-place-test.true)
+    ∙ map_push number before (key (get_or words i no_word)))
 
 pub returns : goal.returns
 returns c =
-    let key = λ (w : Bor (ArcStr Global)). Word c.args.of_field.now.field (arc_str_bytes w.now) in
+    let key = λ (w : Bor (List ℕ)). Word c.args.of_field.now.field w.now in
     c.loop-place.invariant
-    ∙ ap (λ (words : List (Bor (ArcStr Global))). map (number_of c.args.of_field.now.terms) (map key words))
+    ∙ ap (λ (words : List (Bor (List ℕ))). map (number_of c.args.of_field.now.terms) (map key words))
     (take_all c.loop-place.place c.args.words.now c.loop-place-test.false)
 
 pub slice_bounds-from-count : goal.slice_bounds-from-count
 slice_bounds-from-count c =
-    let key = λ (w : Bor (ArcStr Global)). Word c.args.of_field.now.field (arc_str_bytes w.now) in
+    let key = λ (w : Bor (List ℕ)). Word c.args.of_field.now.field w.now in
     omega (
       arith,
       c.loop-place-test.true,
@@ -47,7 +47,7 @@ slice_bounds-from-count c =
 
 pub slice_bounds-from-start : goal.slice_bounds-from-start
 slice_bounds-from-start c =
-    let key = λ (w : Bor (ArcStr Global)). Word c.args.of_field.now.field (arc_str_bytes w.now) in
+    let key = λ (w : Bor (List ℕ)). Word c.args.of_field.now.field w.now in
     omega (
       arith,
       c.loop-place-test.true,
@@ -57,7 +57,7 @@ slice_bounds-from-start c =
 
 pub bounds-lengths-place : goal.bounds-lengths-place
 bounds-lengths-place c =
-    let key = λ (w : Bor (ArcStr Global)). Word c.args.of_field.now.field (arc_str_bytes w.now) in
+    let key = λ (w : Bor (List ℕ)). Word c.args.of_field.now.field w.now in
     omega (
       arith,
       c.loop-place-test.true,
@@ -69,7 +69,7 @@ pub word_number-requires-clause-some : goal.word_number-requires-clause-some
 word_number-requires-clause-some c =
     let leads = c.args.leads.now in
     let place = c.loop-place.place in
-    let key = λ (w : Bor (ArcStr Global)). Word c.args.of_field.now.field (arc_str_bytes w.now) in
+    let key = λ (w : Bor (List ℕ)). Word c.args.of_field.now.field w.now in
     let inside : place < length leads =
     omega (
       arith,
@@ -84,8 +84,7 @@ word_number-requires-clause-lead c =
     let words = c.args.words.now in
     let leads = c.args.leads.now in
     let place = c.loop-place.place in
-    let w = c.index-words-place.result in
-    let key = λ (w : Bor (ArcStr Global)). Word c.args.of_field.now.field (arc_str_bytes w.now) in
+    let key = λ (w : Bor (List ℕ)). Word c.args.of_field.now.field w.now in
     let inside : place < length leads =
     omega (
       arith,
@@ -93,11 +92,11 @@ word_number-requires-clause-lead c =
       leads_long (map key words) leads c.requires.leads,
       length-map words key,
     ) in
-    subst (IsLead (text_of (key w)))
+    subst (IsLead (get_or words place no_word).now)
     (sym (first_left (length leads - place) place leads (omega (arith, inside)) inside))
     (subst (λ (t : KeyValue). IsLead (text_of t) (get_or leads place 0))
-    (key_at key words place w c.loop-place-test.true c.index-words-place.is (key w))
-    (lead_at (map key words) leads c.requires.leads place (key w)
+    (get_or-map key words place no_word (key no_word) c.loop-place-test.true)
+    (lead_at (map key words) leads c.requires.leads place (key no_word)
     (omega (arith, c.loop-place-test.true, length-map words key))))
 
 pub word_number-requires-clause-short : goal.word_number-requires-clause-short
@@ -105,9 +104,8 @@ word_number-requires-clause-short c =
     let words = c.args.words.now in
     let lengths = c.args.lengths.now in
     let place = c.loop-place.place in
-    let w = c.index-words-place.result in
-    let key = λ (w : Bor (ArcStr Global)). Word c.args.of_field.now.field (arc_str_bytes w.now) in
+    let key = λ (w : Bor (List ℕ)). Word c.args.of_field.now.field w.now in
     subst (λ (t : KeyValue). IsShortLength (text_of t) (get_or lengths place 0))
-    (key_at key words place w c.loop-place-test.true c.index-words-place.is (key w))
-    (length_at (map key words) lengths c.requires.lengths place (key w)
+    (get_or-map key words place no_word (key no_word) c.loop-place-test.true)
+    (length_at (map key words) lengths c.requires.lengths place (key no_word)
     (omega (arith, c.loop-place-test.true, length-map words key)))

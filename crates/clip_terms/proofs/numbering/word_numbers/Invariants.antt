@@ -1,5 +1,4 @@
 use Rattle.std.proofs.Common.{◌≡◌, map, take}
-use Rattle.std.specs.Arc.{arc_str_bytes}
 use Rattle.clip_extract.specs.Keys.{Word}
 use Rattle.clip_terms.specs.Terms.{number_of}
 use Rattle.clip_terms.proofs.numbering.word_numbers.Given as goal
@@ -7,4 +6,4 @@ use Rattle.clip_terms.proofs.numbering.word_numbers.Given as goal
 abbrev pub invariant-loop-place : goal.invariant-loop-place
 invariant-loop-place l = l.numbers.items
     ≡ map (number_of l.of_field.terms)
-    (map (λ w. Word l.of_field.field (arc_str_bytes w.now)) (take l.place l.words))
+    (map (λ w. Word l.of_field.field w.now) (take l.place l.words))

@@ -1,4 +1,4 @@
-use Rattle.std.proofs.Common.{◌≡◌, ◌∙◌, None, IfErr, IfOk, OnOk, subst}
+use Rattle.std.proofs.Common.{◌≡◌, None, IfErr, IfOk, OnOk, subst}
 use Rattle.std.specs.List.{All}
 use Rattle.std.specs.Str.{IsUtf8}
 use Rattle.clip_meaning.specs.Article.{fault_of}
@@ -17,5 +17,5 @@ returns c =
           c.found-found.ensures.ok in
           (may_be.0, may_be.1, may_be.2, is_found),
       λ some. subst (λ r. IfErr r (IsNoArticle id fields)) (c.keep.ensures.refused some) c.found-found.ensures.why,
-      c.keep.ensures.engine ∙ c.found-found.ensures.unchanged.0,
+      c.keep.ensures.engine,
     )

@@ -1,7 +1,7 @@
 -- A list is the items from its start to its end.
 use Rattle.std.proofs.Common.{◌≡◌, ◌<◌, ◌∷◌, length, get_or, ◌∙◌, arith}
 use Rattle.std.proofs.lemmas.List.{get_or_read}
-use Rattle.clip_pieces.proofs.Cuts.{past_cut, list_cut, ends_within}
+use Rattle.clip_words.proofs.Cuts.{past_cut, list_cut, ends_within}
 use Rattle.clip_pieces.proofs.packed.PackedLists.get.Goals as goal
 
 pub returns-then-place-len : goal.returns-then-place-len

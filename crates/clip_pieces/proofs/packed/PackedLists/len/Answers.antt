@@ -1,5 +1,5 @@
 use Rattle.std.proofs.Common.{arith}
-use Rattle.clip_pieces.proofs.Cuts.{length-cut}
+use Rattle.clip_words.proofs.Cuts.{length-cut}
 use Rattle.clip_pieces.proofs.packed.PackedLists.len.Goals as goal
 
 pub returns : goal.returns

@@ -1,8 +1,16 @@
 -- The list stands behind the items, and its end behind the ends.
-use Rattle.std.proofs.Common.{◌≡◌, ℕ, List, ◌+◌, ◌++◌, length, length-append, ap, sym, ◌∙◌, subst, arith}
-use Rattle.clip_pieces.specs.Packed.{cut, AreEnds}
-use Rattle.clip_pieces.proofs.Cuts.{all_fit, list_within, cut_off, pushed_ends, pushed_cut}
+use Rattle.std.proofs.Common.{◌≡◌, ℕ, List, ◌+◌, ◌-◌, ◌≤◌, ◌++◌, length, length-append, ap, sym, ◌∙◌, subst, arith}
+use Rattle.std.proofs.Common.{Fits, w32}
+use Rattle.clip_words.specs.Packed.{cut, AreEnds}
+use Rattle.clip_words.proofs.Cuts.{cut_off, pushed_ends, pushed_cut}
+use Rattle.clip_pieces.specs.declared.packed.TheConstants.{MOST_ITEMS}
 use Rattle.clip_pieces.proofs.packed.PackedLists.push.Goals as goal
+
+all_fit : (list items all : ℕ) → list ≤ MOST_ITEMS → items ≤ MOST_ITEMS - list → all ≡ items + list → Fits w32 all
+all_fit list items all few room is = omega arith
+
+list_within : (list items all : ℕ) → all ≡ items + list → list ≤ all
+list_within list items all is = omega arith
 
 pub overflow_cast-len : goal.overflow_cast-len
 overflow_cast-len g c =

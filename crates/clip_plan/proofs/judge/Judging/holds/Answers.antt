@@ -13,8 +13,11 @@ loop-place-init c = λ tree plan.
     c.new-top.ensures c.clear.ensures.items
 
 pub loop-place-preserved : goal.loop-place-preserved
-loop-place-preserved c = λ tree plan. c.in_ok-next.ensures.leads
-    (holds tree c.args.self.now.reading.now.article.fields) (plan_of tree) plan (c.loop-place.invariant tree plan)
+loop-place-preserved c = λ tree plan.
+    let verdict = holds tree c.args.self.now.reading.now.article.fields in
+    c.past_absent-place.ensures.leads verdict (plan_of tree) c.in_ok-next.tally
+    (reverse c.turn.new.stack.items) plan
+    (c.in_ok-next.ensures.leads verdict (plan_of tree) plan (c.loop-place.invariant tree plan))
 
 pub returns : goal.returns
 returns c = λ tree plan.

@@ -1,4 +1,4 @@
-use Rattle.std.proofs.Common.{[], refl, sym, ap, inl, append-nil}
+use Rattle.std.proofs.Common.{[], refl, sym, ap, inl, inr, append-nil, ◌∙◌}
 use Rattle.clip_stream.proofs.Faults.{on_err}
 use Rattle.clip_protocol.specs.LineMeaning.{matching}
 use Rattle.clip_protocol.specs.Reply.{reply}
@@ -39,7 +39,9 @@ returns-in-Reply-clause-ok g c =
       answers = answers_quiet (hearers c.args.audience.now) c.args.self.now.giver.books
           c.args.self.now.registry.registrar.history c.take_line.new.registry.registrar.history c.args.number
           c.args.bytes.now c.in-Reply.text.items taken;
+      asked = c.take_line.new.registry;
       purges = c.in_ok-text.ensures.purged;
+      merges = inl refl;
     })
     (rw c.deref.ensures.value at c.put.ensures.moved)
 
@@ -53,7 +55,9 @@ returns-in-Reply-clause-err g c =
       answers = answers_quiet (hearers c.args.audience.now) c.args.self.now.giver.books
           c.args.self.now.registry.registrar.history c.take_line.new.registry.registrar.history c.args.number
           c.args.bytes.now c.in-Reply.text.items taken;
+      asked = c.take_line.new.registry;
       purges = c.in_ok-text.ensures.purged;
+      merges = inl refl;
     })
     (rw c.deref.ensures.value at c.put.ensures.front)
 
@@ -64,7 +68,8 @@ pub returns-in_ok-view-in-Match-clause-ok : goal.returns-in_ok-view-in-Match-cla
 returns-in_ok-view-in-Match-clause-ok g c =
     let hearers = g.A.Audience.hearers in
     let taken = rw c.in-Match.is at c.in_ok-text.ensures.taken in
-    let looked = ap (λ s. s.history) c.in_ok-view-in-Match.ensures in
+    let merged = c.merge_paid.ensures.history in
+    let looked = ap (λ s. s.history) c.in_ok-view-in-Match.ensures ∙ merged in
     let view = c.in_ok-view-in-Match.view in
     let drafts = c.in-Match.drafts in
     let books = c.args.self.now.giver.books in
@@ -81,9 +86,11 @@ returns-in_ok-view-in-Match-clause-ok g c =
       answered = record {
         answers = answers_matched (hearers c.args.audience.now) (hearers c.settle_batch.new.audience) books
             c.settle_batch.new.self.books c.args.self.now.registry.registrar.history
-            c.take_line.new.registry.registrar.history view.history c.take_line.new.registry.registrar.history
-            c.args.number c.args.bytes.now _ drafts.items taken.0 taken.1 looked refl goes;
+            c.take_line.new.registry.registrar.history view.history c.merge_paid.new.self.registrar.history
+            c.args.number c.args.bytes.now _ drafts.items taken.0 taken.1 looked merged goes;
+        asked = c.take_line.new.registry;
         purges = c.in_ok-text.ensures.purged;
+        merges = inr (_, c.merge_paid.ensures);
       };
       handed = handed;
     })
@@ -93,7 +100,7 @@ pub returns-in_ok-view-in-Match-clause-err : goal.returns-in_ok-view-in-Match-cl
 returns-in_ok-view-in-Match-clause-err g c =
     let hearers = g.A.Audience.hearers in
     let taken = rw c.in-Match.is at c.in_ok-text.ensures.taken in
-    let looked = ap (λ s. s.history) c.in_ok-view-in-Match.ensures in
+    let looked = ap (λ s. s.history) c.in_ok-view-in-Match.ensures ∙ c.merge_paid.ensures.history in
     let books = c.args.self.now.giver.books in
     let text = reply books.settings.form (hearers c.args.audience.now) c.args.number
     c.in_ok-view-in-Match.view.history (matching c.in-Match.drafts.items) in
@@ -104,7 +111,7 @@ returns-in_ok-view-in-Match-clause-err g c =
       broken = inl (breaks_matched (hearers c.args.audience.now) (hearers c.settle_batch.new.audience) books
           c.settle_batch.new.self.books c.args.self.now.registry.registrar.history
           c.take_line.new.registry.registrar.history c.in_ok-view-in-Match.view.history
-          c.take_line.new.registry.registrar.history c.args.number c.args.bytes.now text []
+          c.merge_paid.new.self.registrar.history c.args.number c.args.bytes.now text []
           c.in-Match.drafts.items taken.0 taken.1 looked heard (sym (append-nil text)));
       written = some;
     })

@@ -1,7 +1,6 @@
 use Rattle.std.proofs.Common.{◌≡◌, ℕ, List, ◌++◌, None, map, length, ap, ap₂, sym, ◌∙◌, arith, Bor, Global}
 use Rattle.std.specs.Arc.{arc_str_bytes}
 use Rattle.std.specs.declared.sync.ArcStr.{ArcStr}
-use Rattle.std.proofs.lemmas.List.{length-map}
 use Rattle.clip_extract.specs.Keys.{KeyValue, Word}
 use Rattle.clip_terms.specs.Terms.{term_at}
 use Rattle.clip_terms.specs.Steps.KeysByField.{differing, ordered_keys}
@@ -16,18 +15,18 @@ place_words-requires-clause-postings c =
     let long : length words ≡ length c.in_ok-places.places.items =
     omega (
       arith,
-      ap length c.words-count.ensures,
-      length-map c.words-count.result.now arc_str_bytes,
+      ap length c.words.ensures,
+      c.len-count.ensures,
       c.in_ok-places.ensures.len,
     ) in
-    of_words words c.postings.result.now (length c.in_ok-places.places.items) c.postings.ensures.words long
+    of_words words c.postings.result (length c.in_ok-places.places.items) c.postings.ensures.words long
 
 pub invariant_of-result : goal.invariant_of-result
 invariant_of-result c =
     let field = c.args.field.now in
     let first = c.in_ok-keys.keys in
     let name : arc_str_bytes first.field.now ≡ field.0 = c.in_ok-keys.ensures.field ∙ c.name.ensures in
-    let ps = c.postings.result.now in
+    let ps = c.postings.result in
     let new = c.place_words.new.keys in
     let places = c.place_words.new.places.items in
     let words = differing_words field.1 ps c.postings.ensures.words c.postings.ensures.sorted in
@@ -40,8 +39,8 @@ invariant_of-result c =
     omega (
       arith,
       c.in_ok-place_words.ensures.long,
-      ap length c.words-count.ensures,
-      length-map c.words-count.result.now arc_str_bytes,
+      ap length c.words.ensures,
+      c.len-count.ensures,
       c.in_ok-places.ensures.len,
     ) in
     record {

@@ -6,7 +6,7 @@ use Rattle.clip_terms.proofs.field_numbers.FieldNumbers.of.Goals as goal
 pub invariant_of-result : goal.invariant_of-result
 invariant_of-result c =
     let numbers = c.args.numbers.items in
-    let ps = c.postings.result.now in
+    let ps = c.postings.result in
     subst (AreSpotsOf numbers)
     (sym (c.in_ok-spots.ensures ∙ ap (λ (ns : List (Option ℕ)). spots_of ns ps) c.deref.ensures.value))
     (field_spots c.args.terms.now c.args.field.now numbers ps c.order_law.ensures c.requires c.postings.ensures.words

@@ -1,0 +1,9 @@
+-- The text at the place is the first of those that are left.
+use Rattle.std.proofs.Common.{arith}
+use Rattle.clip_words.proofs.ItemsLeft.{takes}
+use Rattle.clip_words.proofs.texts.TextsIterIterator.next.Goals as goal
+
+pub returns-clause-steps : goal.returns-clause-steps
+returns-clause-steps c =
+    rw (← c.self.view_is) (takes c.self.inside.texts.now c.self.inside.place c.get.result c.get.ensures
+    (omega (arith, c.len.ensures, c.if-place-len.false, c.self.invariant)))
