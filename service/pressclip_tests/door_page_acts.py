@@ -155,7 +155,10 @@ def queries_are_saved_found_changed_and_deleted(browser: Browser, door: Door) ->
     browser.run("document.querySelector('#search').value = ''")
     browser.click("#search")
     browser.type("other-07")
-    browser.until(lambda: len(browser.all("#query-list li")) == 10, "not ten are found by their ids")
+    browser.press("enter")
+    browser.shows("#write-heading", "other-070")
+    need(len(browser.all("#query-list li")) == 10, "not ten are found by their ids")
+    browser.click("#search")
     browser.press("down", "down", "enter")
     browser.shows("#write-heading", "other-071")
     leaves = """const event = new Event("beforeunload", {cancelable: true});

@@ -205,8 +205,10 @@ def all_is_done_by_keys(browser: Browser) -> None:
         browser.has("#said", "Saved.")
         browser.press("escape", "/")
         browser.type("tea")
-        browser.until(lambda: browser.texts("#query-list .name") == ["tea-prices"], "it is not found")
         browser.press("down")
+        browser.until(lambda: browser.run("return document.querySelector('#announcer').textContent") == "1 query found",
+                      "it is not found")
+        need(browser.texts("#query-list .name") == ["tea-prices"], f"{browser.texts('#query-list .name')}")
         need(browser.run("return document.activeElement.dataset.id") == "tea-prices", "the list has no keyboard")
         door.match("a7", "tea")
         browser.until(lambda: browser.texts("#alert-list .headline")[:1] == ["a7"], "no alert")

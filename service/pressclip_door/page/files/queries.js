@@ -15,6 +15,7 @@ export class Queries {
   #next = "";
   /** @type {string | null} */
   #open = null;
+  #isFirstWanted = false;
   #list = find("query-list", HTMLUListElement);
   #search = find("search", HTMLInputElement);
 
@@ -22,6 +23,9 @@ export class Queries {
   constructor(opens) {
     this.opens = opens;
     this.#search.addEventListener("input", later(QUIET_MILLISECONDS, () => this.load()));
+    this.#search.addEventListener("input", () => {
+      this.#isFirstWanted = false;
+    });
     this.#search.addEventListener("keydown", (event) => this.#searchKey(event));
     this.#list.addEventListener("keydown", (event) => this.#listKey(event));
     find("more-queries", HTMLButtonElement).addEventListener("click", () => this.#more());
@@ -35,7 +39,26 @@ export class Queries {
 
   /** Loads the list from its beginning. */
   async load() {
-    await this.#page("", (rows) => this.#list.replaceChildren(...rows));
+    await this.#page("", (rows) => this.#put(rows));
+  }
+
+  /**
+   * Shows a list in the place of the one before. The keyboard stays at its query, or goes to the first where that one
+   * is gone; the first is opened where that was asked for meanwhile.
+   * @param {Node[]} rows
+   */
+  #put(rows) {
+    const active = document.activeElement;
+    const id = active instanceof HTMLElement && this.#list.contains(active) ? active.dataset.id : undefined;
+    this.#list.replaceChildren(...rows);
+    const buttons = [...this.#list.querySelectorAll("button")];
+    if (id !== undefined) {
+      (buttons.find((button) => button.dataset.id === id) ?? buttons[0] ?? this.#search).focus();
+    }
+    if (this.#isFirstWanted) {
+      this.#isFirstWanted = false;
+      buttons[0]?.click();
+    }
   }
 
   /** Loads the list anew, unless someone goes through it. */
@@ -137,7 +160,7 @@ export class Queries {
   }
 
   /**
-   * Goes from the search down into the list.
+   * Goes from the search down into the list, or opens the first that it finds.
    * @param {KeyboardEvent} event
    */
   #searchKey(event) {
@@ -145,7 +168,8 @@ export class Queries {
       event.preventDefault();
       this.#list.querySelector("button")?.focus();
     } else if (event.key === "Enter") {
-      this.#list.querySelector("button")?.click();
+      this.#isFirstWanted = true;
+      this.load();
     }
   }
 
