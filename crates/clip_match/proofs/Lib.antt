@@ -8,5 +8,7 @@ pub mod Places
 pub mod Positions
 pub mod Readings
 pub mod Sent
+pub mod Sharers
 pub mod Sorted
+pub mod Tried
 pub mod Whole

@@ -12,6 +12,7 @@ ghost use Rattle.clip_segment.specs.Segment.{heard_of, trees_of};
 ghost use Rattle.clip_match.specs.Candidates.{candidates_of, positions_of, MissesNone, AreRegistered};
 ghost use Rattle.clip_match.specs.Steps.Held.{HasItsHits};
 ghost use Rattle.clip_match.specs.Steps.Positions.{entries_at, has_listener, holding_of, live_sharing};
+ghost use Rattle.clip_match.specs.Steps.Positions.{IsSharer};
 
 use crate::held::{Held, HitPlaces, HitsFound};
 use crate::registry::View;
@@ -42,6 +43,7 @@ fn candidates_in(
         filter (λ r. holds r.standing.tree reading.now.article.fields)
         (entries_at reading.now.entries positions.new.items)
         ≡ holding_of view.now.history reading.now) }
+    ensures sharers { OnOk result (All (IsSharer reading.now) positions.new.items) }
     ensures few { OnOk result (length positions.new.items
         ≤ length (live_sharing view.now.history reading.now)) }
     ensures read { OnOk result (read.new ≡ read.old
@@ -71,6 +73,8 @@ fn keep_possible(
         (entries_at reading.now.entries possible.new.items)
         ≡ filter (λ r. holds r.standing.tree reading.now.article.fields)
         (entries_at reading.now.entries positions.now)) }
+    ensures sharers { All (IsSharer reading.now) positions.now
+        → OnOk result (All (IsSharer reading.now) possible.new.items) }
     ensures few { OnOk result (length possible.new.items ≤ length positions.now) }
 {
     possible.clear();
@@ -84,13 +88,14 @@ fn keep_possible(
 }
 
 /// Those of the positions at which the query of the segment's entry holds of the article, in place of those that were
-/// in `holding`. One plan is judged for each of the positions. No entry is looked at.
+/// in `holding`. All of them are positions of candidates. One plan is judged for each. No entry is looked at.
 fn keep_holding(
     reading: &SegmentReading<'_>,
     positions: &[u32],
     tallies: &mut Tallies,
     holding: &mut Vec<u32>,
 ) -> Result<(), NoMemory>
+    requires { All (IsSharer reading.now) positions.now }
     ensures holding { OnOk result (entries_at reading.now.entries holding.new.items
         ≡ filter (λ r. holds r.standing.tree reading.now.article.fields)
         (entries_at reading.now.entries positions.now)) }
@@ -98,7 +103,7 @@ fn keep_holding(
 {
     holding.clear();
     for position in positions {
-        if !reading.holds(*position, tallies)? {
+        if !reading.holds(*position, true, tallies)? {
             continue;
         }
         holding.push(*position)?;

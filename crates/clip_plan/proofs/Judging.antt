@@ -15,9 +15,9 @@ use Rattle.clip_meaning.specs.Meaning.{holds, verdicts, group_holds, meets_must,
 use Rattle.clip_extract.specs.Keys.{KeyValue, Word}
 use Rattle.clip_plan.specs.Plan.{Asks, Has, Run, Is, Mark, Leaf, Open, Close, clause_marks, group_marks, plan_of}
 use Rattle.clip_plan.specs.Plan.{decoded}
-use Rattle.clip_plan.specs.Steps.Plans.{mark_of, first_words}
-use Rattle.clip_plan.specs.declared.first_words.FirstWords.{FirstWords}
+use Rattle.clip_plan.specs.Steps.Plans.{mark_of, first_words, outline}
 use Rattle.clip_plan.specs.declared.first_words.TheConstants.{NO_TERM}
+use Rattle.clip_plan.specs.declared.outline.Outline.{Outline}
 use Rattle.clip_plan.specs.declared.step.Step.{Step}
 use Rattle.clip_plan.specs.declared.step.Step.TheVariants as step
 use Rattle.clip_plan.specs.Steps.Judging.{no_clauses, counted, counted_all, tally_holds, is_needless, leaf_holds}
@@ -113,12 +113,12 @@ kept_ends t [] = refl
 kept_ends t (v ∷ vs) = kept_ends (counted t v.0 v.1) vs ∙ kept_end t v.0 v.1
 
 -- a group of one clause that asks
-alone_must : (held : Bool) → group_holds ((Must, held) ∷ []) ≡ held
+pub alone_must : (held : Bool) → group_holds ((Must, held) ∷ []) ≡ held
 unfolding group_holds
 alone_must true = refl
 alone_must false = refl
 
-alone_should : (held : Bool) → group_holds ((Should, held) ∷ []) ≡ held
+pub alone_should : (held : Bool) → group_holds ((Should, held) ∷ []) ≡ held
 unfolding group_holds
 alone_should true = refl
 alone_should false = refl
@@ -619,12 +619,19 @@ absent_marked fields i (Close occur) top around absent = absurd (false≢true ab
 
 -- ---- steps
 
--- the words that are kept of a plan
-words_at : (plans : List (List Step)) (place : ℕ) (w : FirstWords) → place < length (map first_words plans)
-    → get_or (map first_words plans) place w ≡ first_words (unwrap_or (slice_get plans place) [])
-words_at [] place w inside = absurd (omega arith)
-words_at (steps ∷ plans) zero w inside = refl
-words_at (steps ∷ plans) (suc place) w inside = words_at plans place w (omega arith)
+-- the outline that is kept of a plan
+outline_kept : (plans : List (List Step)) (place : ℕ) (o : Outline) → place < length (map outline plans)
+    → get_or (map outline plans) place o ≡ outline (unwrap_or (slice_get plans place) [])
+outline_kept [] place o inside = absurd (omega arith)
+outline_kept (steps ∷ plans) zero o inside = refl
+outline_kept (steps ∷ plans) (suc place) o inside = outline_kept plans place o (omega arith)
+
+pub outline_at : (plans : List (List Step)) (outlines : List Outline) (place : ℕ) (o : Outline)
+    → outlines ≡ map outline plans → place < length outlines → o ≡ get_or outlines place o
+    → o ≡ outline (unwrap_or (slice_get plans place) [])
+outline_at plans outlines place o kept inside is =
+    is ∙ ap (λ os. get_or os place o) kept
+    ∙ outline_kept plans place o (subst (λ (os : List Outline). place < length os) kept inside)
 
 module _ (runs : List (List ℕ)) (queries : List Tree) (terms : List KeyValue) where
   pub decoded_step : (steps : List Step) → decoded terms (map (mark_of runs queries) steps) ≡ map
@@ -681,19 +688,19 @@ module _ (runs : List (List ℕ)) (queries : List Tree) (terms : List KeyValue) 
   ruled_out fields tree (step.Open occur inside ∷ steps) some fails plan = absurd (some refl)
   ruled_out fields tree (step.Close occur ∷ steps) some fails plan = absurd (some refl)
 
-  -- the same of a plan among plans, by the words that are kept of it
+  -- the same of a plan among plans, by the outline that is kept of it
   pub ruled_out_at : (fields : Fields) (tree : Tree) (marks : List (List (Mark ℕ))) (plans : List (List Step))
-      (firsts : List FirstWords) (place : ℕ) (w : FirstWords) → map (map (mark_of runs queries)) plans ≡ marks
-      → firsts ≡ map first_words plans → place < length firsts → w ≡ get_or firsts place w → (w.first ≡ NO_TERM → ⊥)
-      → (has_key fields (term_at terms w.first) && has_key fields (term_at terms w.second)) ≡ false
+      (outlines : List Outline) (place : ℕ) (o : Outline) → map (map (mark_of runs queries)) plans ≡ marks
+      → outlines ≡ map outline plans → place < length outlines → o ≡ get_or outlines place o
+      → (o.words.first ≡ NO_TERM → ⊥)
+      → (has_key fields (term_at terms o.words.first) && has_key fields (term_at terms o.words.second)) ≡ false
       → decoded terms (unwrap_or (slice_get marks place) []) ≡ plan_of tree → holds tree fields ≡ false
-  ruled_out_at fields tree marks plans firsts place w seen kept inside is some fails plan =
+  ruled_out_at fields tree marks plans outlines place o seen kept inside is some fails plan =
       let steps = unwrap_or (slice_get plans place) [] in
-      let same : w ≡ first_words steps = is ∙ ap (λ ws. get_or ws place w) kept
-      ∙ words_at plans place w (subst (λ (ws : List FirstWords). place < length ws) kept inside) in
-      ruled_out fields tree steps (λ none. some (ap (λ (v : FirstWords). v.first) same ∙ none))
-      (ap (λ (v : FirstWords). has_key fields (term_at terms v.first) && has_key fields (term_at terms v.second))
-      (sym same) ∙ fails)
+      let same = outline_at plans outlines place o kept inside is in
+      ruled_out fields tree steps (λ none. some (ap (λ (v : Outline). v.words.first) same ∙ none))
+      (ap (λ (v : Outline). has_key fields (term_at terms v.words.first) && has_key fields
+      (term_at terms v.words.second)) (sym same) ∙ fails)
       (plan_of_steps marks plans place steps tree seen refl plan)
 
   -- ---- one step of those that are left

@@ -2,6 +2,7 @@ pub mod AskedKeys
 pub mod Bare
 pub mod Clauses
 pub mod Copies
+pub mod Disjunctions
 pub mod Judging
 pub mod Leaves
 pub mod Names

@@ -6,7 +6,7 @@ use Rattle.std.below.std_heap.proofs.GlobalAllocator.TheSendSync as allocator_se
 use Rattle.std.proofs.vec.Vec.TheSendSync as vec_sent
 use Rattle.clip_grammar.proofs.Sent.{query_send, query_sync}
 use Rattle.clip_pieces.proofs.packed.PackedLists.TheSendSync as lists_sent
-use Rattle.clip_plan.proofs.first_words.FirstWords.TheSendSync as words_sent
+use Rattle.clip_plan.proofs.outline.Outline.TheSendSync as outline_sent
 use Rattle.clip_plan.proofs.step.Step.TheSendSync as step_sent
 use Rattle.clip_plan.specs.contracts.plans.Plans as plans
 use Rattle.clip_plan.specs.contracts.plans.Plans.TheInside as plans_inside
@@ -19,7 +19,7 @@ plans_send = view_send plans_inside.the_row _ _ _ _
       search (global, lists_sent.the_send, step_sent.the_send),
       (
         search (global, lists_sent.the_send),
-        (search (global, vec_sent.the_send, query_send), (search (global, vec_sent.the_send, words_sent.the_send), tt)),
+        (search (global, vec_sent.the_send, query_send), (search (global, vec_sent.the_send, outline_sent.the_send), tt)),
       ),
     ))
 
@@ -29,6 +29,6 @@ plans_sync = view_sync plans_inside.the_row _ _ _ _
       search (global, lists_sent.the_sync, step_sent.the_sync),
       (
         search (global, lists_sent.the_sync),
-        (search (global, vec_sent.the_sync, query_sync), (search (global, vec_sent.the_sync, words_sent.the_sync), tt)),
+        (search (global, vec_sent.the_sync, query_sync), (search (global, vec_sent.the_sync, outline_sent.the_sync), tt)),
       ),
     ))

@@ -14,8 +14,11 @@
 ghost use Rattle.std.specs.Prelude.{◌≡◌, ℕ, ◌+◌, ◌<◌, ◌≤◌, Bool, true, false, List, [], IfOk, OnOk, map, length};
 ghost use Rattle.std.specs.Prelude.{unwrap_or, reverse, slice_get};
 ghost use Rattle.clip_grammar.specs.Tree.{Tree, tree_of};
+ghost use Rattle.clip_meaning.specs.Article.{Fields};
 ghost use Rattle.clip_meaning.specs.Meaning.{holds};
-ghost use Rattle.clip_extract.specs.Keys.{KeyValue};
+ghost use Rattle.clip_extract.specs.Covering.{article_keys};
+ghost use Rattle.clip_extract.specs.Extraction.{query_keys};
+ghost use Rattle.clip_extract.specs.Keys.{KeyValue, share};
 ghost use Rattle.clip_plan.specs.Plan.{Mark, decoded, plan_of};
 ghost use Rattle.clip_plan.specs.Steps.Judging.{no_clauses, counted, tally_holds, is_needless, mark_holds, meant};
 ghost use Rattle.clip_plan.specs.Steps.Judging.{marked, passed, onward, is_absent, LeadTo};
@@ -325,39 +328,60 @@ impl Plans {
         ensures { (tree : Tree) → decoded reading.now.terms (unwrap_or (slice_get self.now place) []) ≡ plan_of tree
             → result ≡ false → holds tree reading.now.article.fields ≡ false }
     {
-        match self.firsts.get(place) {
-            Some(words) => {
+        match self.outlines.get(place) {
+            Some(outline) => {
+                let words = outline.words;
                 words.first == NO_TERM || (reading.has(words.first) && reading.has(words.second))
             }
             None => true,
         }
     }
 
+    /// Whether the query of the plan at a place holds of each article that has one of its keys: it asks for one of
+    /// several words, which are its keys. Takes no memory. Constant time.
+    fn holds_by_a_key(&self, place: usize) -> bool
+        ensures { (terms : List KeyValue) (tree : Tree) (fields : Fields)
+            → decoded terms (unwrap_or (slice_get self.now place) []) ≡ plan_of tree → result ≡ true
+            → share (query_keys tree) (article_keys fields) ≡ true → holds tree fields ≡ true }
+    {
+        match self.outlines.get(place) {
+            Some(outline) => outline.is_disjunction,
+            None => false,
+        }
+    }
+
     /// Whether the query of the plan at a place holds of the article that is read, where the plan's numbers are those
-    /// of the reading's terms. The room in which it is judged counts it.
+    /// of the reading's terms. `shares_key` says that the article is known to have one of the query's keys. The room in
+    /// which it is judged counts it.
     ///
     /// `NoMemory` where the room had to grow and an allocation failed, or where its count is at its end. Cost: a step
     /// for each leaf and group that it comes to, and for a phrase what `Reading::has_run` takes. What is left of a
     /// group is passed in one step once a clause keeps it from holding, and a clause that may hold is passed in one,
-    /// and not asked, once its group has a clause that must hold or one that does.
+    /// and not asked, once its group has a clause that must hold or one that does. Constant time for a query that asks
+    /// for one of several words, where the article is known to have one of its keys.
     pub fn judge(
         &self,
         place: usize,
         reading: &Reading,
+        shares_key: bool,
         tallies: &mut Tallies,
     ) -> Result<bool, NoMemory>
         ensures held { IfOk result (λ held. (tree : Tree)
             → decoded reading.now.terms (unwrap_or (slice_get self.now place) []) ≡ plan_of tree
+            → (shares_key ≡ true → share (query_keys tree) (article_keys reading.now.article.fields) ≡ true)
             → held ≡ holds tree reading.now.article.fields) }
         ensures counted { OnOk result (tallies.new ≡ tallies.old + 1) }
     {
+        tallies.count_one()?;
+        if shares_key && self.holds_by_a_key(place) {
+            return Ok(true);
+        }
         let judging = Judging {
             steps: self.steps.get(place),
             runs: &self.runs,
             queries: &self.queries,
             reading,
         };
-        tallies.count_one()?;
         judging.holds(&mut tallies.open)
     }
 }

@@ -8,6 +8,7 @@ mod first_words;
 mod hits;
 mod judge;
 mod naming;
+mod outline;
 mod plans;
 mod renaming;
 mod step;

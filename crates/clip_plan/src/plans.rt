@@ -14,11 +14,11 @@ ghost use Rattle.clip_grammar.specs.declared.query.Query.{Query};
 ghost use Rattle.clip_extract.specs.Keys.{KeyValue, Word};
 ghost use Rattle.clip_terms.specs.Terms.{term_at};
 ghost use Rattle.clip_plan.specs.Plan.{Mark, Leaf, Is, Run, decoded, plan_of, clause_marks, are_terms, word_keys};
-ghost use Rattle.clip_plan.specs.Steps.Plans.{first_words, Grows, Adds, IsNoGroup};
+ghost use Rattle.clip_plan.specs.Steps.Plans.{outline, Grows, Adds, IsNoGroup};
 ghost use Rattle.clip_plan.specs.declared.step.Step.TheVariants as step;
 
 use crate::copy::copy_query;
-use crate::first_words::FirstWords;
+use crate::outline::Outline;
 use crate::step::Step;
 use clip_grammar::query::{Occur, Query};
 use clip_pieces::PackedLists;
@@ -38,7 +38,7 @@ pub struct Plans {
     pub(crate) steps: PackedLists<Step>,
     pub(crate) runs: PackedLists<u32>,
     pub(crate) queries: Vec<Query>,
-    pub(crate) firsts: Vec<FirstWords>,
+    pub(crate) outlines: Vec<Outline>,
 }
 
 impl Drop for Plans {
@@ -47,7 +47,7 @@ impl Drop for Plans {
             steps: _,
             runs: _,
             queries: _,
-            firsts: _,
+            outlines: _,
         } = self;
     }
 }
@@ -280,23 +280,23 @@ fn add_plan(
     }
 }
 
-/// Adds the steps of a plan behind those of other plans, and what its first clause asks for; `NoMemory` where an
-/// allocation failed, with both as they were.
+/// Adds the steps of a plan behind those of other plans, and what is known of it before these are read; `NoMemory` where
+/// an allocation failed, with both as they were.
 pub(crate) fn push_steps(
     steps: &[Step],
     plans: &mut PackedLists<Step>,
-    firsts: &mut Vec<FirstWords>,
+    outlines: &mut Vec<Outline>,
 ) -> Result<(), NoMemory>
     ensures ok { OnOk result (plans.new ≡ plans.old ++ steps.now ∷ []) }
     ensures err { OnErr result (plans.new ≡ plans.old) }
-    ensures firsts { firsts.old.items ≡ map first_words plans.old → firsts.new.items ≡ map first_words plans.new }
+    ensures outlines { outlines.old.items ≡ map outline plans.old → outlines.new.items ≡ map outline plans.new }
 {
-    let count = firsts.len();
-    firsts.push(FirstWords::of_plan(steps))?;
+    let count = outlines.len();
+    outlines.push(Outline::of_plan(steps))?;
     match plans.push(steps) {
         Ok(()) => Ok(()),
         Err(_) => {
-            firsts.truncate(count);
+            outlines.truncate(count);
             Err(NoMemory)
         }
     }
@@ -311,7 +311,7 @@ impl Plans {
             steps: PackedLists::new(alloc),
             runs: PackedLists::new(alloc),
             queries: Vec::new(alloc),
-            firsts: Vec::new(alloc),
+            outlines: Vec::new(alloc),
         }
     }
 
@@ -341,7 +341,7 @@ impl Plans {
             &mut self.queries,
             &mut steps,
         )?;
-        push_steps(&steps, &mut self.steps, &mut self.firsts)?;
+        push_steps(&steps, &mut self.steps, &mut self.outlines)?;
         Ok(())
     }
 }

@@ -199,7 +199,7 @@ impl Plans {
         let mut steps = Vec::new(alloc);
         let from = other.steps.get(place);
         source.add_steps(alloc, from, &mut self.runs, &mut self.queries, &mut steps)?;
-        push_steps(&steps, &mut self.steps, &mut self.firsts)?;
+        push_steps(&steps, &mut self.steps, &mut self.outlines)?;
         Ok(())
     }
 }

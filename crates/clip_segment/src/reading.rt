@@ -175,16 +175,25 @@ impl<'a> SegmentReading<'a> {
         self.plans.may_hold(position as usize, &self.reading)
     }
 
-    /// Whether the query of the entry at a position holds of the article. The room in which it is judged counts it.
+    /// Whether the query of the entry at a position holds of the article. `shares_key` says that the query is known to
+    /// share a key with it, as at the positions of `sharers`. The room in which it is judged counts it.
     ///
     /// `NoMemory` where the room had to grow and an allocation failed, or where its count is at its end. Cost: that of
     /// `Plans::judge`; the entry is not looked at.
-    pub fn holds(&self, position: u32, tallies: &mut Tallies) -> Result<bool, NoMemory>
+    pub fn holds(
+        &self,
+        position: u32,
+        shares_key: bool,
+        tallies: &mut Tallies,
+    ) -> Result<bool, NoMemory>
         ensures held { IfOk result (λ held. (entry : Registered) → slice_get self.now.entries position ≡ Some entry
+            → (shares_key ≡ true
+            → share (query_keys entry.standing.tree) (article_keys self.now.article.fields) ≡ true)
             → held ≡ holds entry.standing.tree self.now.article.fields) }
         ensures counted { OnOk result (tallies.new ≡ tallies.old + 1) }
     {
-        self.plans.judge(position as usize, &self.reading, tallies)
+        self.plans
+            .judge(position as usize, &self.reading, shares_key, tallies)
     }
 
     /// Where the words of the article stand by the numbers of the terms of the segment's index, to find the hits of the

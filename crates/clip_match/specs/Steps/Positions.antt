@@ -1,5 +1,5 @@
 -- The entries of a segment that share a key.
-use Rattle.std.specs.Prelude.{ℕ, Bool, ◌&&◌, List, filter, flat_map, is_some, option_to_list}
+use Rattle.std.specs.Prelude.{◌≡◌, ℕ, Bool, true, Some, ◌&&◌, List, filter, flat_map, is_some, option_to_list}
 use Rattle.std.specs.List.{enumerate_from, slice_get}
 use Rattle.clip_meaning.specs.Meaning.{holds}
 use Rattle.clip_model.specs.History.{History, Registered, is_live}
@@ -32,6 +32,11 @@ live_sharing history asked = live_with history (article_keys asked.article.field
 abbrev pub holding_of : History → AskedValue → List Registered
 holding_of history asked =
     filter (λ r. holds r.standing.tree asked.article.fields) (live_sharing history asked)
+
+-- the entry at the position, where there is one, shares a key with the article
+abbrev pub IsSharer : AskedValue → ℕ → Type 0
+IsSharer asked position = (entry : Registered) → slice_get asked.entries position ≡ Some entry
+    → has_one (article_keys asked.article.fields) entry ≡ true
 
 -- the entries at these positions
 abbrev pub entries_at : List Registered → List ℕ → List Registered

@@ -1,9 +1,9 @@
 -- Plans as contracts see them, and what holds of each.
-use Rattle.std.specs.Prelude.{◌≡◌, ℕ, ◌<◌, List, [], ◌∷◌, ◌++◌, map, length, unwrap_or, slice_get}
-use Rattle.std.specs.List.{All}
+use Rattle.std.specs.Prelude.{◌≡◌, ℕ, ◌<◌, Bool, true, false, List, [], ◌∷◌, ◌++◌, map, length, unwrap_or, slice_get}
+use Rattle.std.specs.List.{All, list_all}
 use Rattle.std.specs.declared.vec.Vec.{Vec}
 use Rattle.std.specs.declared.alloc.Global.{Global}
-use Rattle.clip_grammar.specs.Tree.{Tree, none, clause, tree_of}
+use Rattle.clip_grammar.specs.Tree.{Tree, tree_of}
 use Rattle.clip_grammar.specs.declared.query.Occur.{Occur}
 use Rattle.clip_grammar.specs.declared.query.Occur.TheVariants.{Must, Should, MustNot}
 use Rattle.clip_grammar.specs.declared.query.Query.{Query}
@@ -12,6 +12,7 @@ use Rattle.clip_extract.specs.Keys.{KeyValue}
 use Rattle.clip_plan.specs.Plan.{Has, Run, Is, Mark, Leaf, Open, Close, decoded}
 use Rattle.clip_plan.specs.declared.first_words.FirstWords.{FirstWords}
 use Rattle.clip_plan.specs.declared.first_words.TheConstants.{NO_TERM}
+use Rattle.clip_plan.specs.declared.outline.Outline.{Outline}
 use Rattle.clip_plan.specs.declared.step.Step.{Step}
 use Rattle.clip_plan.specs.declared.step.Step.TheVariants as step
 use Rattle.clip_plan.specs.declared.plans.Plans.TheInside.{Inside}
@@ -65,11 +66,36 @@ abbrev pub first_words : List Step → FirstWords
 first_words [] = no_words
 first_words (s ∷ steps) = step_words s
 
+-- ---- words that may be there
+
+abbrev pub may_be : Occur → Bool
+may_be Must = false
+may_be Should = true
+may_be MustNot = false
+
+-- the step asks for a word that may be there
+abbrev pub may_be_there : Step → Bool
+may_be_there (step.Term occur n) = may_be occur
+may_be_there (step.Pair occur m n) = false
+may_be_there (step.Phrase occur place) = false
+may_be_there (step.Query occur place) = false
+may_be_there (step.Open occur inside) = false
+may_be_there (step.Close occur) = false
+
+-- there are steps, and each asks for a word that may be there
+abbrev pub is_disjunction : List Step → Bool
+is_disjunction [] = false
+is_disjunction (s ∷ steps) = list_all may_be_there (s ∷ steps)
+
 -- ---- plans
 
--- each step has its run or query, and of each plan it is kept what its first clause asks for
+-- what is known of a plan before its steps are read
+abbrev pub outline : List Step → Outline
+outline steps = record { words = first_words steps; is_disjunction = is_disjunction steps }
+
+-- each step has its run or query, and of each plan its outline is kept
 abbrev pub AreWhole : Inside → Type 0
-AreWhole plans = HavePlaces plans × (plans.firsts.items ≡ map first_words plans.steps)
+AreWhole plans = HavePlaces plans × (plans.outlines.items ≡ map outline plans.steps)
 
 -- ---- adding
 

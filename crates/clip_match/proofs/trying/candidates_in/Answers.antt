@@ -1,14 +1,15 @@
-use Rattle.std.proofs.Common.{◌≡◌, false, filter, get_or, length, map, option_map, ap, ap₂, ◌∙◌}
+use Rattle.std.proofs.Common.{◌≡◌, false, filter, get_or, length, map, option_map, sym, ap, ap₂, ◌∙◌, subst}
 use Rattle.std.proofs.Common.{arith, rules}
-use Rattle.std.specs.List.{count_by}
+use Rattle.std.specs.List.{All, count_by}
 use Rattle.std.proofs.lemmas.Option.{same_Some}
 use Rattle.clip_pieces.specs.Marked.{both}
 use Rattle.clip_extract.specs.Covering.{article_keys}
 use Rattle.clip_meaning.specs.Meaning.{holds}
 use Rattle.clip_model.specs.History.{Registered, is_live}
-use Rattle.clip_match.specs.Steps.Positions.{entries_at}
+use Rattle.clip_match.specs.Steps.Positions.{entries_at, IsSharer}
 use Rattle.clip_match.proofs.Judgings.{fewer_marked}
 use Rattle.clip_match.proofs.Marks.{candidate, counted, held_among, live_sharers}
+use Rattle.clip_match.proofs.Sharers.{marked_sharers}
 use Rattle.clip_match.proofs.trying.candidates_in.Goals as goal
 use Rattle.clip_match.proofs.trying.candidates_in.Goals.{After-keep}
 
@@ -39,6 +40,13 @@ returns-clause-positions c =
     held c.keep_met.new.marks
     (c.keep_met.ensures.length ∙ ap length (kept here))
     (λ k e there passes. c.keep_met.ensures.none_lost k e there passes ∙ ap (λ fs. get_or fs k false) (kept here))
+
+pub returns-clause-sharers : goal.returns-clause-sharers
+returns-clause-sharers c =
+    let here = (goal.at.returns-clause-sharers c).After-keep in
+    subst (All (IsSharer c.args.reading.now)) (sym c.in_ok-numbers_into.ensures)
+    (marked_sharers c.args.view.now.history c.args.reading.now c.keep_met.new.marks c.keep.new.self (kept here)
+    c.keep_met.ensures.fewer)
 
 pub returns-clause-few : goal.returns-clause-few
 returns-clause-few c =

@@ -1,4 +1,4 @@
-use Rattle.std.proofs.Common.{map, sym, ◌∙◌, arith}
+use Rattle.std.proofs.Common.{map, arith}
 use Rattle.clip_grammar.specs.Tree.{tree_of}
 use Rattle.clip_plan.proofs.Judging.{step_absent}
 use Rattle.clip_plan.proofs.judge.Judging.past_absent.Goals as goal

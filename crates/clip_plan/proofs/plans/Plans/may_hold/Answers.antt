@@ -8,21 +8,21 @@ use Rattle.clip_plan.proofs.plans.Plans.may_hold.Goals as goal
 pub returns-then-has : goal.returns-then-has
 returns-then-has c = λ tree plan fails.
     let reading = c.args.reading.now in
-    let words = c.in-Some.words.now in
+    let outline = c.in-Some.outline.now in
     ruled_out_at c.self.inside.runs (map tree_of c.self.inside.queries.items) reading.terms reading.article.fields tree
-    c.args.self.now c.self.inside.steps c.deref.result.now c.args.place words
+    c.args.self.now c.self.inside.steps c.deref.result.now c.args.place outline
     c.self.view_is (c.deref.ensures.value ∙ c.self.invariant.1) c.in-Some.ensures.lookup.3.0 c.in-Some.ensures.lookup.1
     c.if-words.false
-    (ap (λ b. b && has_key reading.article.fields (term_at reading.terms words.second)) (sym c.has.ensures
+    (ap (λ b. b && has_key reading.article.fields (term_at reading.terms outline.words.second)) (sym c.has.ensures
     ∙ c.if-has.true) ∙ sym c.has-then-has.ensures ∙ fails) plan
 
 pub returns-else-has : goal.returns-else-has
 returns-else-has c = λ tree plan fails.
     let reading = c.args.reading.now in
-    let words = c.in-Some.words.now in
+    let outline = c.in-Some.outline.now in
     ruled_out_at c.self.inside.runs (map tree_of c.self.inside.queries.items) reading.terms reading.article.fields tree
-    c.args.self.now c.self.inside.steps c.deref.result.now c.args.place words
+    c.args.self.now c.self.inside.steps c.deref.result.now c.args.place outline
     c.self.view_is (c.deref.ensures.value ∙ c.self.invariant.1) c.in-Some.ensures.lookup.3.0 c.in-Some.ensures.lookup.1
     c.if-words.false
-    (ap (λ b. b && has_key reading.article.fields (term_at reading.terms words.second)) (sym c.has.ensures ∙ fails))
+    (ap (λ b. b && has_key reading.article.fields (term_at reading.terms outline.words.second)) (sym c.has.ensures ∙ fails))
     plan
