@@ -13,8 +13,8 @@ use Rattle.clip_grammar.specs.declared.query.Occur.TheVariants.{Must, Should, Mu
 use Rattle.clip_meaning.specs.Article.{Fields}
 use Rattle.clip_meaning.specs.Meaning.{holds, verdicts, group_holds, meets_must, meets_must_not, meets_should, is_must}
 use Rattle.clip_extract.specs.Covering.{article_keys}
-use Rattle.clip_extract.specs.Extraction.{Extracted, together, heaviest, musts, shoulds, group_extract, extract, extracts}
-use Rattle.clip_extract.specs.Extraction.{query_keys}
+use Rattle.clip_extract.specs.Extraction.{Extracted, together, heaviest, musts, shoulds, group_extract, extract}
+use Rattle.clip_extract.specs.Extraction.{extracts, query_keys}
 use Rattle.clip_extract.specs.Keys.{KeyValue, Word, share}
 use Rattle.clip_extract.proofs.Order.{any_in_order}
 use Rattle.clip_terms.specs.Reading.{has_key}

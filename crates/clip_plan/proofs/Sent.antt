@@ -19,7 +19,10 @@ plans_send = view_send plans_inside.the_row _ _ _ _
       search (global, lists_sent.the_send, step_sent.the_send),
       (
         search (global, lists_sent.the_send),
-        (search (global, vec_sent.the_send, query_send), (search (global, vec_sent.the_send, outline_sent.the_send), tt)),
+        (
+          search (global, vec_sent.the_send, query_send),
+          (search (global, vec_sent.the_send, outline_sent.the_send), tt),
+        ),
       ),
     ))
 
@@ -29,6 +32,9 @@ plans_sync = view_sync plans_inside.the_row _ _ _ _
       search (global, lists_sent.the_sync, step_sent.the_sync),
       (
         search (global, lists_sent.the_sync),
-        (search (global, vec_sent.the_sync, query_sync), (search (global, vec_sent.the_sync, outline_sent.the_sync), tt)),
+        (
+          search (global, vec_sent.the_sync, query_sync),
+          (search (global, vec_sent.the_sync, outline_sent.the_sync), tt),
+        ),
       ),
     ))

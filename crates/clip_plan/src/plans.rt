@@ -280,8 +280,8 @@ fn add_plan(
     }
 }
 
-/// Adds the steps of a plan behind those of other plans, and what is known of it before these are read; `NoMemory` where
-/// an allocation failed, with both as they were.
+/// Adds the steps of a plan behind those of other plans, and what is known of it before these are read; `NoMemory`
+/// where an allocation failed, with both as they were.
 pub(crate) fn push_steps(
     steps: &[Step],
     plans: &mut PackedLists<Step>,

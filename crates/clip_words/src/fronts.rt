@@ -28,7 +28,8 @@ fn is_letter(byte: u8) -> bool
     byte.is_ascii_alphabetic() || byte.is_ascii_digit()
 }
 
-/// Whether a character of ASCII stands between words, and never within one. A space is looked for first, since most are.
+/// Whether a character of ASCII stands between words, and never within one. A space is looked for first, since most
+/// are one.
 fn is_separator(byte: u8) -> bool
     ensures { result ≡ is_separator byte }
 {

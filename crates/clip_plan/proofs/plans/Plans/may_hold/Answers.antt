@@ -24,5 +24,5 @@ returns-else-has c = λ tree plan fails.
     c.args.self.now c.self.inside.steps c.deref.result.now c.args.place outline
     c.self.view_is (c.deref.ensures.value ∙ c.self.invariant.1) c.in-Some.ensures.lookup.3.0 c.in-Some.ensures.lookup.1
     c.if-words.false
-    (ap (λ b. b && has_key reading.article.fields (term_at reading.terms outline.words.second)) (sym c.has.ensures ∙ fails))
-    plan
+    (ap (λ b. b && has_key reading.article.fields (term_at reading.terms outline.words.second))
+    (sym c.has.ensures ∙ fails)) plan
