@@ -12,13 +12,17 @@ from itertools import cycle
 from random import Random
 from typing import Callable, Iterable
 
-from prose import Article
+from prose import Article, words_of
+from queries import Word, either, text_of
 from workload import Workload, line_of, match_lines, register_lines
 
 PASSES = 10
 
 # Of how many articles each long one is made, and how many long ones are timed.
 JOINED, LONG_ONES = (1, 16, 64, 256, 380), 3
+
+# How many words a query of alternatives has, of how many one is a word of articles, and how many are registered a line.
+ALTERNATIVES, ONE_IN, LONG_A_LINE = 1_000, 10, 64
 
 
 @dataclass(frozen=True)
@@ -43,7 +47,7 @@ class Scenario:
     by the registered queries: the timed lines leave these as they are, and no
     article is long. `in_lock_step` says that each timed line is sent once the
     one before it is answered. `label` names the row where its scenario has
-    several.
+    several. `workload` has the queries, where these are not those of the run.
     """
 
     size: Size
@@ -54,6 +58,7 @@ class Scenario:
     judged: bool = True
     in_lock_step: bool = False
     label: str = ""
+    workload: Workload | None = None
 
 
 # Makes a row.
@@ -164,6 +169,17 @@ def mixed_lines(label: str, sizes: Iterable[int], workload: Workload, size: Size
     return replace(full_lines(workload, size), register=cut(lines, PASSES), label=label)
 
 
+def alternatives(workload: Workload, size: Size) -> Scenario:
+    """Queries of 1,000 words, of which one is enough, then one article a line."""
+    said = sorted({word for article in workload.articles for word in words_of(article.text)})
+    words = said + [f"x{number:06d}" for number in range((ONE_IN - 1) * len(said))]
+    rng = Random(ALTERNATIVES)
+    queries = [either(*map(Word, rng.sample(words, ALTERNATIVES))) for _ in range(size.queries)]
+    named = [(name, text_of(query)) for (name, _), query in zip(workload.named, queries)]
+    own = replace(workload, queries=list(queries), named=named)
+    return replace(full_lines(own, size), register=cut(register_lines(named, LONG_A_LINE), PASSES), workload=own)
+
+
 def drawn(most: int) -> list[int]:
     """Numbers from 1 to the most one, in any order."""
     return Random(most).choices(range(1, most + 1), k=10_000)
@@ -193,6 +209,7 @@ SCENARIOS: dict[str, tuple[Maker, ...]] = {
         partial(mixed_lines, "of 1 to 6", drawn(6)),
         partial(mixed_lines, "of 1 to 100", drawn(100)),
     ),
+    "alternatives": (alternatives,),
     "quiet": WORKED,
     "busy": WORKED,
 }
