@@ -30,7 +30,7 @@ refused : (b : Bool) → (b ≡ true → ⊥) → b ≡ false
 refused true not = absurd (not refl)
 refused false not = refl
 
-or_false : (b : Bool) → (b || false) ≡ b
+pub or_false : (b : Bool) → (b || false) ≡ b
 or_false true = refl
 or_false false = refl
 

@@ -25,7 +25,7 @@ use Rattle.clip_plan.specs.Steps.Plans.{mark_of, may_be, may_be_there, is_disjun
 use Rattle.clip_plan.specs.declared.outline.Outline.{Outline}
 use Rattle.clip_plan.specs.declared.step.Step.{Step}
 use Rattle.clip_plan.specs.declared.step.Step.TheVariants as step
-use Rattle.clip_plan.proofs.AskedKeys.{has_word_key}
+use Rattle.clip_plan.proofs.AskedKeys.{has_word_key, or_false}
 use Rattle.clip_plan.proofs.Judging.{alone_must, alone_should, outline_at, plan_of_steps}
 
 -- ---- marks
@@ -42,10 +42,6 @@ may : (occur : Occur) → may_be occur ≡ true → occur ≡ Should
 may Must h = absurd (false≢true h)
 may Should h = refl
 may MustNot h = absurd (false≢true h)
-
-or_false : (b : Bool) → (b || false) ≡ b
-or_false true = refl
-or_false false = refl
 
 module _ (runs : List (List ℕ)) (queries : List Tree) (terms : List KeyValue) where
   step_chosen : (s : Step) → may_be_there s ≡ true → is_choice (meant runs queries terms s) ≡ true
