@@ -1,7 +1,7 @@
 -- The postings of a range of words: a run, from where the range begins up to the first word that is past it.
 use Rattle.std.proofs.Common.{◌≡◌, ℕ, suc, ◌+◌, ◌<◌, ◌≤◌, Bool, true, false, not, cond, ◌&&◌, List, [], ◌∷◌, length}
 use Rattle.std.proofs.Common.{take, drop, filter, get_or, is_lt, Ordering, Less, Equal, Greater, refl, sym, ap, subst}
-use Rattle.std.proofs.Common.{◌∙◌, arith, true≢false, one-add}
+use Rattle.std.proofs.Common.{◌∙◌, arith, true≢false, one-add, map}
 use Rattle.std.specs.List.{prefix_len}
 use Rattle.std.specs.List.Sorted.{IsPartitionedBy, IsPartitionPoint}
 use Rattle.std.specs.Cmp.Lexicographic.{nat_list_cmp_total}
@@ -12,7 +12,10 @@ use Rattle.clip_grammar.specs.Tokens.{End}
 use Rattle.clip_meaning.proofs.Fields.{prefix_from_point}
 use Rattle.clip_meaning.proofs.WordOrder.{Place, Rises, tail_rises, turned, below_upto, not_below, no_later}
 use Rattle.clip_meaning.proofs.WordOrder.{stays_above}
-use Rattle.clip_meaning.proofs.WordOrder.{none_kept}
+use Rattle.clip_meaning.proofs.WordOrder.{none_kept, rises_from}
+use Rattle.clip_meaning.proofs.Occurrences.{ended, bound_told}
+use Rattle.clip_meaning.specs.declared.index.Occurrence.{Occurrence}
+use Rattle.clip_meaning.specs.Steps.Occurrences.{posting_at}
 use Rattle.clip_meaning.specs.Steps.Searches.{from_low}
 use Rattle.clip_meaning.specs.Meaning.{above, below, begins_with, is_between}
 
@@ -109,6 +112,18 @@ pub run_read : (low : End) (t u : Place → Bool) → IsRun low t u → (ps xs f
 run_read low t u run ps xs front n r same bound point e =
     e ∙ ap (λ m. take m xs) (prefix_from_point u xs n ([], 0) bound point) ∙ ap (Front u) same
     ∙ run_kept low t u run ps r
+
+-- the same of words that a search told apart where they occur
+pub run_found : (low : End) (t u : Place → Bool) → IsRun low t u → (words : List (List ℕ)) (os : List Occurrence)
+    (ps xs front : List Place) (n : ℕ) → Rises ps → xs ≡ from_low low ps → map (posting_at words) os ≡ xs
+    → n ≤ length os
+    → (IsPartitionedBy (λ o. u (posting_at words o)) os
+    → IsPartitionPoint (λ o. u (posting_at words o) ≡ true) (λ o. u (posting_at words o) ≡ false) os n)
+    → front ≡ take n xs → front ≡ filter t ps
+run_found low t u run words os ps xs front n r same told bound point e =
+    let part : Rises xs = subst Rises (sym same) (rises_from low ps r) in
+    run_read low t u run ps xs front n r same (bound_told words os xs n told bound)
+    (ended u words os xs n told (run_first low t u run ps xs r part same) bound point) e
 
 -- ---- the two tests
 
