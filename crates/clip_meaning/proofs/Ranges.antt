@@ -1,23 +1,24 @@
 -- The postings of a range of words: a run, from where the range begins up to the first word that is past it.
 use Rattle.std.proofs.Common.{◌≡◌, ℕ, suc, ◌+◌, ◌<◌, ◌≤◌, Bool, true, false, not, cond, ◌&&◌, List, [], ◌∷◌, length}
-use Rattle.std.proofs.Common.{take, drop, filter, get_or, is_lt, Ordering, Less, Equal, Greater, refl, sym, ap, subst}
-use Rattle.std.proofs.Common.{◌∙◌, arith, true≢false, one-add, map}
+use Rattle.std.proofs.Common.{take, drop, filter, map, get_or, is_eq, is_gt, is_lt, Ordering, Less, Equal, Greater}
+use Rattle.std.proofs.Common.{refl, sym, ap, subst, ◌∙◌, arith, true≢false, one-add}
 use Rattle.std.specs.List.{prefix_len}
 use Rattle.std.specs.List.Sorted.{IsPartitionedBy, IsPartitionPoint}
 use Rattle.std.specs.Cmp.Lexicographic.{nat_list_cmp_total}
+use Rattle.std.specs.Ordering.{ordering_reverse}
+use Rattle.std.specs.Str.{bytes_eq}
 use Rattle.std.proofs.lemmas.Bool.{not-true, not-false}
 use Rattle.std.proofs.lemmas.Cmp.{upto}
 use Rattle.clip_words.specs.Order.{bytes_cmp}
 use Rattle.clip_grammar.specs.Tokens.{End}
-use Rattle.clip_meaning.proofs.Fields.{prefix_from_point}
-use Rattle.clip_meaning.proofs.WordOrder.{Place, Rises, tail_rises, turned, below_upto, not_below, no_later}
-use Rattle.clip_meaning.proofs.WordOrder.{stays_above}
-use Rattle.clip_meaning.proofs.WordOrder.{none_kept, rises_from}
-use Rattle.clip_meaning.proofs.Occurrences.{ended, bound_told}
 use Rattle.clip_meaning.specs.declared.index.Occurrence.{Occurrence}
+use Rattle.clip_meaning.specs.Meaning.{above, below, begins_with, is_between}
 use Rattle.clip_meaning.specs.Steps.Occurrences.{posting_at}
 use Rattle.clip_meaning.specs.Steps.Searches.{from_low}
-use Rattle.clip_meaning.specs.Meaning.{above, below, begins_with, is_between}
+use Rattle.clip_meaning.proofs.Fields.{prefix_from_point}
+use Rattle.clip_meaning.proofs.Occurrences.{ended, bound_told}
+use Rattle.clip_meaning.proofs.WordOrder.{Place, Rises, tail_rises, turned, below_upto, not_below, no_later}
+use Rattle.clip_meaning.proofs.WordOrder.{none_kept, rises_from, stays_above, tells}
 
 -- ---- above the low end
 
@@ -125,7 +126,24 @@ run_found low t u run words os ps xs front n r same told bound point e =
     run_read low t u run ps xs front n r same (bound_told words os xs n told bound)
     (ended u words os xs n told (run_first low t u run ps xs r part same) bound point) e
 
--- ---- the two tests
+-- ---- the three tests
+
+unequal_past : (o : Ordering) → not (is_gt o) ≡ false → is_eq (ordering_reverse o) ≡ false
+unequal_past Less e = absurd (true≢false e)
+unequal_past Equal e = absurd (true≢false e)
+unequal_past Greater e = refl
+
+equal_upto : (o : Ordering) → not (is_gt o) ≡ true → is_eq (ordering_reverse o) ≡ not (is_lt o)
+equal_upto Less e = refl
+equal_upto Equal e = refl
+equal_upto Greater e = absurd (true≢false (sym e))
+
+pub word_run : (word : List ℕ) → IsRun (End.With word) (λ p. bytes_eq p.0 word) (λ p. not (is_lt (bytes_cmp word p.0)))
+word_run word = record {
+  outside = λ p e. tells word p.0 ∙ unequal_past (bytes_cmp word p.0) e;
+  inside = λ p e. tells word p.0 ∙ equal_upto (bytes_cmp word p.0) e;
+  stops = λ p q here le e. ap (λ o. not (is_lt o)) (below_upto word p.0 q.0 (less_from _ (not-false _ e)) le);
+}
 
 pub front_run : (front : List ℕ) → IsRun (End.With front) (λ p. begins_with front p.0) (λ p. begins_with front p.0)
 front_run front = record {

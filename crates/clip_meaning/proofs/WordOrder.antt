@@ -1,6 +1,6 @@
 -- Postings in the byte order of their words: where a range of words begins, and what its first word settles.
 use Rattle.std.proofs.Common.{◌≡◌, ℕ, zero, suc, ◌+◌, ◌<◌, ◌≤◌, Bool, true, false, not, cond, ◌&&◌, ◌||◌, List, [], ◌∷◌}
-use Rattle.std.proofs.Common.{length, take, drop, filter, get_or, bytes_eq, is_lt, is_gt, is_eq, nat_lt, ◌==◌, Ordering}
+use Rattle.std.proofs.Common.{length, drop, filter, get_or, bytes_eq, is_lt, is_gt, is_eq, nat_lt, ◌==◌, Ordering}
 use Rattle.std.proofs.Common.{Less, Equal, Greater, refl, sym, ap, ◌∙◌, arith, true≢false, one-add, add-zero}
 use Rattle.std.proofs.Common.{length-drop, ◌-◌}
 use Rattle.std.proofs.lemmas.List.{get_or-drop}
@@ -12,7 +12,7 @@ use Rattle.std.specs.Cmp.{IsTotalOrder, on_total, then_total, nat_cmp_total}
 use Rattle.std.specs.Cmp.Lexicographic.{nat_list_cmp_total}
 use Rattle.std.proofs.Math.Bool.{and-false, not-not}
 use Rattle.std.proofs.lemmas.Bool.{not-true, not-false}
-use Rattle.std.proofs.lemmas.Cmp.{alike_right, upto}
+use Rattle.std.proofs.lemmas.Cmp.{alike_right}
 use Rattle.std.proofs.lemmas.List.Sorted.{sorted_far, ranks_by}
 use Rattle.std.proofs.lemmas.Map.Text.{is_eq-slice_cmp}
 use borrow.Author.Tests.{eqb-true}
@@ -293,78 +293,11 @@ first_above low ps all p same lt is =
 
 -- ---- the postings of one word
 
-tells : (word w : List ℕ) → bytes_eq w word ≡ is_eq (ordering_reverse (bytes_cmp word w))
+pub tells : (word w : List ℕ) → bytes_eq w word ≡ is_eq (ordering_reverse (bytes_cmp word w))
 tells word w = sym (is_eq-slice_cmp w word) ∙ ap is_eq (nat_list_cmp_total.antisymm w word)
-
-abbrev upto_test : List ℕ → Place → Bool
-upto_test word p = not (is_lt (bytes_cmp word p.0))
-
-abbrev equal_test : List ℕ → Place → Bool
-equal_test word p = bytes_eq p.0 word
 
 pub none_kept : (t : Place → Bool) (ps : List Place)
     → ((k : ℕ) (d : Place) → k < length ps → t (get_or ps k d) ≡ false) → filter t ps ≡ []
 none_kept t [] none = refl
 none_kept t (p ∷ ps) none = ap (λ b. cond b (p ∷ filter t ps) (filter t ps)) (none 0 p (omega arith))
     ∙ none_kept t ps (λ k d lt. none (suc k) d (omega arith))
-
-abbrev NotBelow : List ℕ → List Place → Type 0
-NotBelow word ps = (k : ℕ) (d : Place) → k < length ps → is_gt (bytes_cmp word (get_or ps k d).0) ≡ false
-
-abbrev UptoIsEqual : List ℕ → List Place → Type 0
-UptoIsEqual word ps = take (prefix_len (upto_test word) ps) ps ≡ filter (equal_test word) ps
-
--- of words that are not below it
-from_place : (word : List ℕ) (ps : List Place) → Rises ps → NotBelow word ps → UptoIsEqual word ps
-from_place word [] r least = refl
-from_place word (p ∷ ps) r least =
-    by_order (bytes_cmp word p.0) refl
-    (from_place word ps (tail_rises p ps r) (λ k d lt. least (suc k) d (omega arith)))
-  where
-    by_order : (o : Ordering) → bytes_cmp word p.0 ≡ o → UptoIsEqual word ps
-        → take (cond (not (is_lt o)) (1 + prefix_len (upto_test word) ps) 0) (p ∷ ps)
-        ≡ cond (bytes_eq p.0 word) (p ∷ filter (equal_test word) ps) (filter (equal_test word) ps)
-    by_order Less e rest =
-        sym (ap (λ b. cond b (p ∷ filter (equal_test word) ps) (filter (equal_test word) ps)) (tells word p.0
-        ∙ ap (λ o. is_eq (ordering_reverse o)) e)
-        ∙ none_kept (equal_test word) ps (λ k d lt. tells word (get_or ps k d).0
-        ∙ ap (λ o. is_eq (ordering_reverse o))
-        (below_upto word p.0 (get_or ps k d).0 e (r 0 (suc k) d (omega arith) (omega arith)))))
-    by_order Equal e rest =
-        ap (λ m. take m (p ∷ ps)) (one-add (prefix_len (upto_test word) ps)) ∙ ap (λ qs. p ∷ qs) rest
-        ∙ sym (ap (λ b. cond b (p ∷ filter (equal_test word) ps) (filter (equal_test word) ps)) (tells word p.0
-        ∙ ap (λ o. is_eq (ordering_reverse o)) e))
-    by_order Greater e rest = absurd (true≢false (sym (ap is_gt e) ∙ least 0 p (omega arith)))
-
-abbrev OccursAt : List ℕ → List Place → List Place → Type 0
-OccursAt word xs ps = take (prefix_len (upto_test word) xs) xs ≡ filter (equal_test word) ps
-
-pub occurs : (word : List ℕ) (ps : List Place) → Rises ps → OccursAt word (from_low (End.With word) ps) ps
-occurs word [] r = refl
-occurs word (p ∷ ps) r = by_order (bytes_cmp word p.0) refl (occurs word ps (tail_rises p ps r))
-  where
-    later : (o : Ordering) → bytes_cmp word p.0 ≡ o → is_gt o ≡ false → NotBelow word (p ∷ ps)
-    later o e g zero d lt = ap is_gt e ∙ g
-    later o e g (suc k) d lt =
-        upto nat_list_cmp_total word p.0 (get_or ps k d).0 (ap is_gt e
-        ∙ g) (turned p.0 (get_or ps k d).0 (r 0 (suc k) d (omega arith) (omega arith)))
-
-    by_order : (o : Ordering) → bytes_cmp word p.0 ≡ o → OccursAt word (from_low (End.With word) ps) ps
-        → OccursAt word (drop (cond (not (not (is_gt o))) (1
-        + prefix_len (λ (q : Place). not (above (End.With word) q.0)) ps) 0) (p ∷ ps)) (p ∷ ps)
-    by_order Less e rest = from_place word (p ∷ ps) r (later Less e refl)
-    by_order Equal e rest = from_place word (p ∷ ps) r (later Equal e refl)
-    by_order Greater e rest =
-        ap (λ m. let xs = drop m (p ∷ ps) in
-        take (prefix_len (upto_test word) xs) xs)
-        (one-add (prefix_len (λ (q : Place). not (above (End.With word) q.0)) ps))
-        ∙ rest ∙ sym (ap (λ b. cond b (p ∷ filter (equal_test word) ps) (filter (equal_test word) ps)) (tells word p.0
-        ∙ ap (λ o. is_eq (ordering_reverse o)) e))
-
--- the front of a range up to where a second search ends
-pub occurrences_read : (word : List ℕ) (ps xs front : List Place) (n : ℕ) → Rises ps → xs ≡ from_low (End.With word) ps
-    → n ≤ length xs → IsPartitionPoint (λ p. upto_test word p ≡ true) (λ p. upto_test word p ≡ false) xs n
-    → front ≡ take n xs → front ≡ filter (equal_test word) ps
-occurrences_read word ps xs front n r same bound point e =
-    e ∙ ap (λ m. take m xs) (prefix_from_point (upto_test word) xs n ([], 0) bound point)
-    ∙ ap (λ ys. take (prefix_len (upto_test word) ys) ys) same ∙ occurs word ps r
