@@ -1,6 +1,7 @@
 -- Texts compare as their leads, where these differ.
 use Rattle.std.proofs.Common.{◌≡◌, ℕ, zero, suc, ◌+◌, ◌-◌, ◌*◌, ◌^◌, ◌<◌, ◌≤◌, List, length, [], ◌∷◌, Less, Equal}
 use Rattle.std.proofs.Common.{Greater, Ordering, refl, sym, ap, ◌∙◌, subst, arith, add-zero, add-one, drop, get_or}
+use Rattle.std.proofs.Common.{nat_lt, is_lt, lt-ltb, le-ltb}
 use Rattle.std.specs.Ordering.{ordering_then, nat_cmp, MatchOrdering, ordering_reverse}
 use Rattle.std.proofs.lemmas.Cmp.{ranked}
 use Rattle.std.specs.Cmp.Lexicographic.{nat_list_cmp_total}
@@ -142,3 +143,12 @@ room (suc (suc (suc (suc (suc zero))))) lead byte lt small is = (omega arith, om
 room (suc (suc (suc (suc (suc (suc zero)))))) lead byte lt small is = (omega arith, omega arith)
 room (suc (suc (suc (suc (suc (suc (suc zero))))))) lead byte lt small is = (omega arith, omega arith)
 room (suc (suc (suc (suc (suc (suc (suc (suc i)))))))) lead byte lt small is = absurd (omega arith)
+
+-- a number that is less, told by an order
+pub lesser : (m n : ℕ) → nat_lt m n ≡ is_lt (nat_cmp m n)
+lesser m n = by_order (nat_cmp m n) (ranked m n _ refl)
+  where
+    by_order : (o : Ordering) → MatchOrdering o (m < n) (m ≡ n) (n < m) → nat_lt m n ≡ is_lt o
+    by_order Less less = lt-ltb m n less
+    by_order Equal same = le-ltb m n (omega arith)
+    by_order Greater more = le-ltb m n (omega arith)

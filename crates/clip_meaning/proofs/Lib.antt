@@ -8,3 +8,4 @@ mod Pairs
 mod WordOrder
 mod RaisedFlags
 mod Ranges
+mod Rising

@@ -38,7 +38,7 @@ any_position t ps os same =
 -- ---- searches
 
 module _ {X Y : Type 0} (f : X → Y) (t : Y → Bool) where
-  told_at : (xs : List X) (k : ℕ) (d : Y) (e : X) → k < length xs → get_or (map f xs) k d ≡ f (get_or xs k e)
+  pub told_at : (xs : List X) (k : ℕ) (d : Y) (e : X) → k < length xs → get_or (map f xs) k d ≡ f (get_or xs k e)
   told_at [] k d e lt = absurd (omega arith)
   told_at (x ∷ xs) zero d e lt = refl
   told_at (x ∷ xs) (suc k) d e lt = told_at xs k d e (omega arith)

@@ -8,9 +8,9 @@
 //! occurrences:  (lead of `for`, 1) (lead of `tea`, 0) (lead of `two`, 2)
 //! ```
 ghost use Rattle.std.specs.Prelude.{◌≡◌, ◌≤◌, ◌<◌, [], map, take, drop, filter, not, get_or, length, IfOk};
-ghost use Rattle.std.specs.Prelude.{IsPermutation, option_map};
+ghost use Rattle.std.specs.Prelude.{IsPermutation, option_map, true};
 ghost use Rattle.std.specs.List.{slice_get};
-ghost use Rattle.std.specs.List.{list_any};
+ghost use Rattle.std.specs.List.{All, list_any};
 ghost use Rattle.std.specs.List.Sorted.{IsSorted, IsSortedByKey};
 ghost use Rattle.std.specs.Str.{bytes_eq};
 ghost use Rattle.std.specs.Ordering.{is_gt, is_lt};
@@ -19,10 +19,12 @@ ghost use Rattle.clip_grammar.specs.Tokens.{End};
 ghost use Rattle.clip_grammar.specs.Tree.{end_of};
 ghost use Rattle.clip_meaning.specs.Index.{numbered, posting_cmp};
 ghost use Rattle.clip_meaning.specs.Leads.{IsLead};
-ghost use Rattle.clip_meaning.specs.Steps.Occurrences.{posting_at, IsIndexOf};
+ghost use Rattle.clip_meaning.specs.Steps.Occurrences.{posting_at, order_of, HasLeadOf, IsOccurrence, IsIndexOf};
+ghost use Rattle.clip_meaning.specs.Steps.Occurrences.{AreRising};
 ghost use Rattle.clip_meaning.specs.Steps.Searches.{from_low};
 ghost use Rattle.clip_meaning.specs.Meaning.{below, begins_with, is_between};
 
+use crate::arranged::arranged;
 use crate::lead::{compare_by_leads, lead_of};
 use clip_grammar::query::Bound;
 use clip_words::{NoMemory, Texts};
@@ -33,8 +35,8 @@ use std::marker::Model;
 /// Where a word of a field occurs: its position among the field's words, from 0, and beside it the word's lead.
 #[derive(Clone, Copy, Debug)]
 pub(crate) struct Occurrence {
-    lead: u64,
-    position: usize,
+    pub(crate) lead: u64,
+    pub(crate) position: usize,
 }
 
 impl Occurrence {
@@ -139,8 +141,8 @@ fn postings_of<'a>(alloc: Global, words: &'a Texts) -> Result<Vec<Posting<'a>>, 
 }
 
 /// Where the words of a field occur, in the byte order of the words, and those of one word in the order of their
-/// positions.
-pub(crate) fn occurrences_of(alloc: Global, words: &Texts) -> Result<Vec<Occurrence>, NoMemory>
+/// positions: all of them sorted, whatever order they come in.
+fn sorted_occurrences(alloc: Global, words: &Texts) -> Result<Vec<Occurrence>, NoMemory>
     ensures { IfOk result (λ found. IsIndexOf words.now found.items) }
 {
     let mut postings = postings_of(alloc, words)?;
@@ -157,6 +159,64 @@ pub(crate) fn occurrences_of(alloc: Global, words: &Texts) -> Result<Vec<Occurre
         })?;
     }
     Ok(found)
+}
+
+/// The occurrences of words, in the order of the text.
+fn occurrences_in_text(alloc: Global, words: &Texts) -> Result<Vec<Occurrence>, NoMemory>
+    ensures { IfOk result (λ found. All (IsOccurrence words.now) found.items) }
+{
+    let mut found = Vec::with_capacity(alloc, words.len())?;
+    for position in 0..words.len() {
+        let lead = lead_of(word_at(words, position));
+        found.push(Occurrence { lead, position })?;
+    }
+    Ok(found)
+}
+
+/// Whether an occurrence is of a word below another one's, or of the same word and before it. Looks at the texts only
+/// where the words have the same lead.
+fn is_before(words: &Texts, a: &Occurrence, b: &Occurrence) -> bool
+    requires a { HasLeadOf words.now a.now }
+    requires b { HasLeadOf words.now b.now }
+    ensures { result ≡ is_lt (order_of words.now a.now b.now) }
+{
+    if a.lead != b.lead {
+        return a.lead < b.lead;
+    }
+    compare_by_leads(
+        word_at(words, a.position),
+        a.lead,
+        word_at(words, b.position),
+        b.lead,
+    )
+    .then(a.position.cmp(&b.position))
+    .is_lt()
+}
+
+/// Whether each occurrence is before the next one.
+fn are_rising(words: &Texts, found: &[Occurrence]) -> bool
+    requires { All (IsOccurrence words.now) found.now }
+    ensures { result ≡ true → AreRising words.now found.now }
+{
+    for place in 1..found.len() {
+        if !is_before(words, &found[place - 1], &found[place]) {
+            return false;
+        }
+    }
+    true
+}
+
+/// Where the words of a field occur, in the byte order of the words, and those of one word in the order of their
+/// positions. They are brought near that order first, and mostly into it; where they aren't in it then, they are
+/// sorted.
+pub(crate) fn occurrences_of(alloc: Global, words: &Texts) -> Result<Vec<Occurrence>, NoMemory>
+    ensures { IfOk result (λ found. IsIndexOf words.now found.items) }
+{
+    let found = arranged(alloc, words, occurrences_in_text(alloc, words)?)?;
+    if found.len() == words.len() && are_rising(words, &found) {
+        return Ok(found);
+    }
+    sorted_occurrences(alloc, words)
 }
 
 /// Postings of a field side by side, in the byte order of their words, and those of one word in the order of their

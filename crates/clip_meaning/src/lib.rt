@@ -6,6 +6,7 @@
 
 ghost use Rattle.std.specs.Prelude.{◌≡◌};
 
+mod arranged;
 mod article;
 mod fault;
 mod field;

@@ -1,7 +1,7 @@
 use Rattle.std.proofs.Common.{◌≡◌, map, take}
 use Rattle.std.specs.List.{All}
 use Rattle.clip_meaning.specs.Steps.Occurrences.{posting_at, HasLeadOf}
-use Rattle.clip_meaning.proofs.index.occurrences_of.Given as goal
+use Rattle.clip_meaning.proofs.index.sorted_occurrences.Given as goal
 
 abbrev pub invariant-loop-posting : goal.invariant-loop-posting
 invariant-loop-posting l = record {
