@@ -4,3 +4,4 @@ pub mod Splits
 pub mod Cuts
 pub mod ItemsLeft
 pub mod PackedTexts
+pub mod Lowered

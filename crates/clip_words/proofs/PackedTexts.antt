@@ -1,14 +1,14 @@
--- Texts that lie one behind another.
-use Rattle.std.proofs.Common.{◌≡◌, ℕ, zero, suc, ◌-◌, ◌<◌, ◌≤◌, ◌∷◌, [], ◌++◌, List, Some, None, length, take}
-use Rattle.std.proofs.Common.{drop, get_or, slice_get, sym, ap, subst, ◌∙◌, arith, length-append}
+-- Texts that lie in one longer text.
+use Rattle.std.proofs.Common.{◌≡◌, ℕ, ◌-◌, ◌≤◌, ◌∷◌, [], ◌++◌, List, length, map, take, drop}
+use Rattle.std.proofs.Common.{slice_range, refl, sym, ap, ap₂, subst, ◌∙◌, arith, length-append, length-drop}
 use Rattle.std.specs.Str.{IsCharBoundary, IsUtf8}
-use Rattle.std.proofs.lemmas.List.{drop-append-le, get_or_read}
-use Rattle.std.proofs.lemmas.Option.{slice_get-get_or, slice_get_past, unwrap_or-slice_get}
-use Rattle.std.proofs.lemmas.Str.{IsCharBoundary-from_drop, IsUtf8-append, IsUtf8-between, IsUtf8-drop}
-use Rattle.std.proofs.lemmas.List.Elements.{All-cons, All-head, All-nil, All-tail}
 use Rattle.std.specs.List.{All}
-use Rattle.clip_words.specs.Packed.{cut, AreEnds}
-use Rattle.clip_words.proofs.Cuts.{length-cut, list_cut}
+use Rattle.std.proofs.Math.Seq.{drop-append_seam}
+use Rattle.std.proofs.lemmas.List.{drop-append-le, take-append-le, take_all}
+use Rattle.std.proofs.lemmas.Str.{IsCharBoundary-from_drop, IsUtf8-append, IsUtf8-between, IsUtf8-drop}
+use Rattle.std.proofs.lemmas.List.Elements.{All-head, All-tail, All-map, All-weaker}
+use Rattle.clip_words.specs.Steps.TextsView.{text_in, IsSpan}
+use Rattle.clip_words.specs.declared.texts.Span.{Span}
 
 -- where a text may be cut it may also be cut with another behind it
 pub bound_before : (text more : List ℕ) → IsUtf8 text → IsUtf8 more → (at : ℕ) → IsCharBoundary text at
@@ -19,37 +19,40 @@ bound_before text more is are at bound =
     (subst IsUtf8 (sym (drop-append-le at text more bound.0))
     (IsUtf8-append (drop at text) more (IsUtf8-drop text at is bound) are))
 
--- where the text at a place begins that isn't the first
-pub start_at : (ends : List ℕ) (place found : ℕ) → 0 < place → place < length ends
-    → found ≡ get_or ends (place - 1) found → found ≡ get_or (0 ∷ ends) place 0
-start_at ends zero found later lt is = absurd (omega arith)
-start_at ends (suc place) found later lt is =
-    let before : suc place - 1 ≡ place = omega arith in
-    get_or_read ends place found (omega arith) (is ∙ ap (λ k. get_or ends k found) before) 0
+-- the text of a span stays where another text comes behind
+pub kept_slice : (all more : List ℕ) (start end : ℕ) → start ≤ end → end ≤ length all
+    → slice_range (all ++ more) start end ≡ slice_range all start end
+kept_slice all more start end rises within =
+    ap (take (end - start)) (drop-append-le start all more (omega (arith, rises, within)))
+    ∙ take-append-le (end - start) (drop start all) more (omega (arith, within, rises, length-drop start all))
 
--- the text at a place is what lies between its start and its end
-pub text_at : (ends text found : List ℕ) (place : ℕ) → place < length ends
-    → found ≡ take (get_or ends place 0 - get_or (0 ∷ ends) place 0) (drop (get_or (0 ∷ ends) place 0) text)
-    → Some found ≡ slice_get (cut 0 ends text) place
-text_at ends text found place lt is =
-    let texts = cut 0 ends text in
-    sym (slice_get-get_or texts place [] (omega (arith, lt, length-cut 0 ends text))
-    ∙ ap Some (sym (unwrap_or-slice_get texts place []) ∙ sym (list_cut 0 ends text place lt) ∙ sym is))
+kept_text : (all more : List ℕ) (span : Span) → IsSpan all span → text_in (all ++ more) span ≡ text_in all span
+kept_text all more span is = kept_slice all more span.start span.end is.rises is.upto.0
 
-pub no_text : (ends text : List ℕ) (place : ℕ) → length ends ≤ place → None ≡ slice_get (cut 0 ends text) place
-no_text ends text place past =
-    sym (slice_get_past (cut 0 ends text) place (omega (arith, past, length-cut 0 ends text)))
+pub kept_texts : (all more : List ℕ) (spans : List Span) → All (IsSpan all) spans
+    → map (text_in (all ++ more)) spans ≡ map (text_in all) spans
+kept_texts all more [] each = refl
+kept_texts all more (span ∷ spans) each =
+    ap₂ (λ text texts. text ∷ texts) (kept_text all more span (All-head (IsSpan all) span spans each))
+    (kept_texts all more spans (All-tail (IsSpan all) span spans each))
 
-texts_utf8 : (start : ℕ) (ends text : List ℕ) → IsUtf8 text → IsCharBoundary text start → AreEnds start ends text
-    → All (IsCharBoundary text) ends → All IsUtf8 (cut start ends text)
-texts_utf8 start [] text is bound e bounds = All-nil IsUtf8
-texts_utf8 start (end ∷ ends) text is bound e bounds =
-    let next = All-head (IsCharBoundary text) end ends bounds in
-    All-cons IsUtf8 (take (end - start) (drop start text)) (cut end ends text)
-    (IsUtf8-between text start end is e.0 bound next)
-    (texts_utf8 end ends text is next e.1 (All-tail (IsCharBoundary text) end ends bounds))
+pub kept_spans : (all more : List ℕ) (spans : List Span) → IsUtf8 all → IsUtf8 more → All (IsSpan all) spans
+    → All (IsSpan (all ++ more)) spans
+kept_spans all more spans is are each = All-weaker (IsSpan all) (IsSpan (all ++ more)) (λ span here. record {
+  rises = here.rises;
+  from = bound_before all more is are span.start here.from;
+  upto = bound_before all more is are span.end here.upto;
+}) spans each
+
+-- what comes behind a text
+pub behind : (all more : List ℕ) → slice_range (all ++ more) (length all) (length (all ++ more)) ≡ more
+behind all more =
+    ap (take (length (all ++ more) - length all)) (drop-append_seam all more)
+    ∙ take_all (length (all ++ more) - length all) more (omega (arith, length-append all more))
 
 -- each text is in UTF-8
-pub all_utf8 : (ends text : List ℕ) → IsUtf8 text → AreEnds 0 ends text → All (IsCharBoundary text) ends
-    → All IsUtf8 (cut 0 ends text)
-all_utf8 ends text is = texts_utf8 0 ends text is (IsCharBoundary-from_drop text 0 (omega arith) is)
+pub all_utf8 : (all : List ℕ) (spans : List Span) → IsUtf8 all → All (IsSpan all) spans
+    → All IsUtf8 (map (text_in all) spans)
+all_utf8 all spans is each = All-map IsUtf8 (text_in all) spans
+    (All-weaker (IsSpan all) (λ span. IsUtf8 (text_in all span))
+    (λ span here. IsUtf8-between all span.start span.end is here.rises here.from here.upto) spans each)

@@ -4,12 +4,12 @@ ghost use Rattle.std.specs.Char.{is_ascii_alphanumeric};
 ghost use Rattle.std.specs.List.{list_all};
 ghost use Rattle.unicode_segmentation.specs.Word.{words};
 ghost use Rattle.clip_words.specs.Steps.Fronts.{is_word_mark, is_separator, ends_word, IsSeam};
-ghost use Rattle.clip_words.specs.Steps.Fronts.{front_words, has_letters};
+ghost use Rattle.clip_words.specs.Steps.Fronts.{front_words, has_letters, IsInside, IsRest};
 
 /// The front of a text. Its words and those of the rest are the words of the text.
 pub(crate) enum FrontPart<'a> {
-    /// One word, of ASCII letters and digits alone.
-    Word(&'a str),
+    /// One word, of ASCII letters and digits alone, and at which byte of the whole text it begins.
+    Word(&'a str, usize),
     /// Any text.
     Text(&'a str),
 }
@@ -93,16 +93,18 @@ pub(crate) fn split_front(text: &str) -> (FrontPart<'_>, &str)
     requires { 0 < length text.now }
     ensures words { words text.now ≡ front_words result.0 ++ words result.1.now }
     ensures letters { has_letters result.0 ≡ true }
+    ensures inside { IsInside text.now result.0 }
     ensures shorter { length result.1.now < length text.now }
+    ensures rest { IsRest text.now result.1.now }
 {
     let bytes = text.as_bytes();
     let start = separators(bytes);
     let end = start + letters(&bytes[start..]);
     if start < end && ends_word(&bytes[end..]) {
-        return (FrontPart::Word(&text[start..end]), &text[end..]);
+        return (FrontPart::Word(&text[start..end], start), &text[end..]);
     }
     if start < end && is_word_mark(bytes[end]) && ends_word(&bytes[end + 1..]) {
-        return (FrontPart::Word(&text[start..end]), &text[end + 1..]);
+        return (FrontPart::Word(&text[start..end], start), &text[end + 1..]);
     }
     let seam = seam_past(bytes, end);
     (FrontPart::Text(&text[..seam]), &text[seam..])
