@@ -1,7 +1,8 @@
 -- Texts compare as their leads, where these differ.
 use Rattle.std.proofs.Common.{◌≡◌, ℕ, zero, suc, ◌+◌, ◌-◌, ◌*◌, ◌^◌, ◌<◌, ◌≤◌, List, length, [], ◌∷◌, Less, Equal}
 use Rattle.std.proofs.Common.{Greater, Ordering, refl, sym, ap, ◌∙◌, subst, arith, add-zero, add-one, drop, get_or}
-use Rattle.std.proofs.Common.{nat_lt, is_lt, lt-ltb, le-ltb}
+use Rattle.std.proofs.Common.{nat_lt, is_lt, lt-ltb, le-ltb, ◌/◌, ◌%◌, take, min}
+use Rattle.std.specs.Int.{from_be_bytes, w64}
 use Rattle.std.specs.Ordering.{ordering_then, nat_cmp, MatchOrdering, ordering_reverse}
 use Rattle.std.proofs.lemmas.Cmp.{ranked}
 use Rattle.std.specs.Cmp.Lexicographic.{nat_list_cmp_total}
@@ -152,3 +153,58 @@ lesser m n = by_order (nat_cmp m n) (ranked m n _ refl)
     by_order Less less = lt-ltb m n less
     by_order Equal same = le-ltb m n (omega arith)
     by_order Greater more = le-ltb m n (omega arith)
+
+-- ---- eight bytes as one number
+
+-- what is left of eight bytes when all behind so many are 0
+abbrev pub kept : (first bits : ℕ) → ℕ
+kept first bits = first / 2 ^ bits * 2 ^ bits % 18446744073709551616
+
+abbrev Ahead : List ℕ → (n m : ℕ) → Type 0
+Ahead xs n m = (first : ℕ) → first ≡ from_be_bytes w64 (take 8 xs) → kept first (64 - 8 * m) ≡ lead_of (take n xs)
+
+eight : (a b c d e f g h : ℕ) (xs : List ℕ) → a < 256 → b < 256 → c < 256 → d < 256 → e < 256 → f < 256 → g < 256
+    → h < 256 → (n : ℕ) → 0 < n → Ahead (a ∷ b ∷ c ∷ d ∷ e ∷ f ∷ g ∷ h ∷ xs) n (min n 8)
+unfolding lead_of
+eight a b c d e f g h xs la lb lc ld le lf lg lh zero some first is = absurd (omega arith)
+eight a b c d e f g h xs la lb lc ld le lf lg lh (suc zero) some first is = omega arith
+eight a b c d e f g h xs la lb lc ld le lf lg lh (suc (suc zero)) some first is = omega arith
+eight a b c d e f g h xs la lb lc ld le lf lg lh (suc (suc (suc zero))) some first is = omega arith
+eight a b c d e f g h xs la lb lc ld le lf lg lh (suc (suc (suc (suc zero)))) some first is = omega arith
+eight a b c d e f g h xs la lb lc ld le lf lg lh (suc (suc (suc (suc (suc zero))))) some first is = omega arith
+eight a b c d e f g h xs la lb lc ld le lf lg lh (suc (suc (suc (suc (suc (suc zero)))))) some first is = omega arith
+eight a b c d e f g h xs la lb lc ld le lf lg lh (suc (suc (suc (suc (suc (suc (suc zero))))))) some first is =
+    omega arith
+eight a b c d e f g h xs la lb lc ld le lf lg lh (suc (suc (suc (suc (suc (suc (suc (suc n)))))))) some first is =
+    let all : min (suc (suc (suc (suc (suc (suc (suc (suc n)))))))) 8 ≡ 8 = omega arith in
+    let whole : kept first 0 ≡ lead_of (a ∷ b ∷ c ∷ d ∷ e ∷ f ∷ g ∷ h ∷ take n xs) = omega arith in
+    ap (λ m. kept first (64 - 8 * m)) all ∙ whole
+
+-- the lead of a text of so many bytes that others begin with
+pub lead_kept : (xs : List ℕ) (n first : ℕ) → ((i : ℕ) → get_or xs i 0 < 256) → 8 ≤ length xs → (n ≡ 0 → ⊥)
+    → first ≡ from_be_bytes w64 (take 8 xs) → kept first (64 - 8 * min n 8) ≡ lead_of (take n xs)
+lead_kept (a ∷ b ∷ c ∷ d ∷ e ∷ f ∷ g ∷ h ∷ xs) n first bytes long some is =
+    eight a b c d e f g h xs (bytes 0) (bytes 1) (bytes 2) (bytes 3) (bytes 4) (bytes 5) (bytes 6) (bytes 7) n
+    (above n some) first is
+  where
+    above : (m : ℕ) → (m ≡ 0 → ⊥) → 0 < m
+    above zero not = absurd (not refl)
+    above (suc m) not = omega arith
+lead_kept [] n first bytes long some is = absurd (omega (arith, long))
+lead_kept (a ∷ []) n first bytes long some is = absurd (omega (arith, long))
+lead_kept (a ∷ b ∷ []) n first bytes long some is = absurd (omega (arith, long))
+lead_kept (a ∷ b ∷ c ∷ []) n first bytes long some is = absurd (omega (arith, long))
+lead_kept (a ∷ b ∷ c ∷ d ∷ []) n first bytes long some is = absurd (omega (arith, long))
+lead_kept (a ∷ b ∷ c ∷ d ∷ e ∷ []) n first bytes long some is = absurd (omega (arith, long))
+lead_kept (a ∷ b ∷ c ∷ d ∷ e ∷ f ∷ []) n first bytes long some is = absurd (omega (arith, long))
+lead_kept (a ∷ b ∷ c ∷ d ∷ e ∷ f ∷ g ∷ []) n first bytes long some is = absurd (omega (arith, long))
+
+pub bytes_kept : (n : ℕ) (xs : List ℕ) → ((i : ℕ) → get_or xs i 0 < 256) → AreBytes (take n xs)
+bytes_kept zero xs all = tt
+bytes_kept (suc n) [] all = tt
+bytes_kept (suc n) (x ∷ xs) all = (all 0, bytes_kept n xs (λ i. all (suc i)))
+
+pub lead_none : (n : ℕ) (xs : List ℕ) → n ≡ 0 → IsLead (take n xs) 0
+unfolding lead_of
+lead_none zero xs is = record { bytes = tt; number = refl }
+lead_none (suc n) xs is = absurd (omega (arith, is))

@@ -25,7 +25,7 @@ ghost use Rattle.clip_meaning.specs.Steps.Searches.{from_low};
 ghost use Rattle.clip_meaning.specs.Meaning.{below, begins_with, is_between};
 
 use crate::arranged::arranged;
-use crate::lead::{compare_by_leads, lead_of};
+use crate::lead::{compare_by_leads, lead_ahead, lead_of};
 use clip_grammar::query::Bound;
 use clip_words::{NoMemory, Texts};
 use std::alloc::Global;
@@ -167,7 +167,7 @@ fn occurrences_in_text(alloc: Global, words: &Texts) -> Result<Vec<Occurrence>, 
 {
     let mut found = Vec::with_capacity(alloc, words.len())?;
     for position in 0..words.len() {
-        let lead = lead_of(word_at(words, position));
+        let lead = lead_ahead(words.ahead(position), word_at(words, position).len());
         found.push(Occurrence { lead, position })?;
     }
     Ok(found)

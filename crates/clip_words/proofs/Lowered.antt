@@ -65,7 +65,8 @@ lowered text rest all (Word word start) left begins inside =
       inside.0,
       omega (arith, end, long, ap length begins, length-take (length low) all),
       ap (λ xs. slice_range xs (at + start) (at + start + n)) whole
-          ∙ kept_slice low (drop (length low) all) (at + start) (at + start + n) (omega arith) (omega (arith, end, long))
+          ∙ kept_slice low (drop (length low) all) (at + start) (at + start + n) (omega arith)
+          (omega (arith, end, long))
           ∙ ap (take (at + start + n - (at + start))) (drop-map to_ascii_lowercase (at + start) text)
           ∙ take-map to_ascii_lowercase (at + start + n - (at + start)) (drop (at + start) text)
           ∙ ap (λ m. map to_ascii_lowercase (take m (drop (at + start) text))) a

@@ -7,7 +7,7 @@
 //! spans:   0 to 3, 11 to 16
 //! ```
 ghost use Rattle.std.specs.Prelude.{◌≡◌, ◌≤◌, ◌∷◌, ◌++◌, [], IfOk, OnOk, length, map, string_bytes};
-ghost use Rattle.std.specs.Prelude.{slice_range, take};
+ghost use Rattle.std.specs.Prelude.{slice_range, take, ℕ, List, Some};
 ghost use Rattle.std.specs.Char.{to_ascii_lowercase};
 ghost use Rattle.std.specs.Iterator.{at_most};
 ghost use Rattle.std.specs.List.{All, slice_get};
@@ -195,6 +195,19 @@ impl Texts {
         }
         let span = spans[place];
         Some(&self.spans.all[span.start as usize..span.end as usize])
+    }
+
+    /// The text at a place from 0 with all bytes that lie behind it; none past the last. Takes no memory. Constant
+    /// time.
+    pub fn ahead(&self, place: usize) -> &[u8]
+        ensures { (text : List ℕ) → slice_get self.now place ≡ Some text → take (length text) result.now ≡ text }
+    {
+        let spans = &self.spans.spans;
+        if place >= spans.len() {
+            return &[];
+        }
+        let start = spans[place].start as usize;
+        &self.spans.all.as_bytes()[start..]
     }
 
     /// An iterator over the texts in order. Takes no memory. Cost: constant time for each text.

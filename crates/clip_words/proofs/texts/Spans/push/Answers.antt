@@ -1,4 +1,5 @@
-use Rattle.std.proofs.Common.{◌≡◌, ◌∷◌, [], ◌++◌, map, length, slice_range, string_bytes, sym, ap, ap₂, subst, ◌∙◌, OnOk}
+use Rattle.std.proofs.Common.{◌≡◌, ◌∷◌, [], ◌++◌, map, length, slice_range, string_bytes}
+use Rattle.std.proofs.Common.{sym, ap, ap₂, subst, ◌∙◌, OnOk}
 use Rattle.std.specs.List.{All}
 use Rattle.std.specs.Str.{IsCharBoundary}
 use Rattle.std.proofs.lemmas.Str.{IsCharBoundary-end, IsUtf8-string_bytes}

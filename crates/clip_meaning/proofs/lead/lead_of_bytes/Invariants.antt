@@ -1,6 +1,6 @@
 use Rattle.std.proofs.Common.{◌≡◌, ◌<◌, ◌-◌, ◌^◌, drop}
 use Rattle.clip_meaning.specs.Leads.{lead_after}
-use Rattle.clip_meaning.proofs.lead.lead_of.Given as goal
+use Rattle.clip_meaning.proofs.lead.lead_of_bytes.Given as goal
 
 abbrev pub invariant-loop-i : goal.invariant-loop-i
 invariant-loop-i l = record {
