@@ -4,6 +4,7 @@ pub mod Leads
 pub mod Marks
 pub mod Numbered
 mod Occurrences
+mod LeadSearch
 mod Pairs
 mod WordOrder
 mod RaisedFlags

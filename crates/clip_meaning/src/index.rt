@@ -8,7 +8,7 @@
 //! occurrences:  (lead of `for`, 1) (lead of `tea`, 0) (lead of `two`, 2)
 //! ```
 ghost use Rattle.std.specs.Prelude.{◌≡◌, ◌≤◌, ◌<◌, [], map, take, drop, filter, not, get_or, length, IfOk};
-ghost use Rattle.std.specs.Prelude.{IsPermutation, option_map, true};
+ghost use Rattle.std.specs.Prelude.{IsPermutation, option_map, true, false, nat_lt};
 ghost use Rattle.std.specs.List.{slice_get};
 ghost use Rattle.std.specs.List.{All, list_any};
 ghost use Rattle.std.specs.List.Sorted.{IsSorted, IsSortedByKey};
@@ -326,8 +326,36 @@ impl<'a> Postings<'a> {
         Some(word_at(self.words, first.position))
     }
 
-    /// The postings of the words that are not below a word.
+    /// Whether the word at a place, if there is one, is not below a word.
+    fn reaches(&self, place: usize, word: &str) -> bool
+        ensures { result ≡ true → place < length self.now
+            → is_gt (bytes_cmp word.now (get_or self.now place ([], 0)).0) ≡ false }
+    {
+        if place >= self.occurrences.len() {
+            return true;
+        }
+        word <= word_at(self.words, self.occurrences[place].position)
+    }
+
+    /// The postings of the words that are not below a word. Words are told apart by their leads, and where that doesn't
+    /// do by their texts.
     fn not_below(&self, word: &str) -> Postings<'a>
+        ensures { result ≡ from_low (End.With word.now) self.now }
+    {
+        let lead = lead_of(word);
+        let place = self.occurrences.partition_point(
+            |found: &Occurrence| -> bool
+                ensures { result ≡ nat_lt found.now.lead lead }
+            { found.lead < lead },
+        );
+        if self.reaches(place, word) {
+            return self.from(place);
+        }
+        self.not_below_text(word)
+    }
+
+    /// The postings of the words that are not below a word, told apart by their texts alone.
+    fn not_below_text(&self, word: &str) -> Postings<'a>
         ensures { result ≡ from_low (End.With word.now) self.now }
     {
         let words = self.words;
