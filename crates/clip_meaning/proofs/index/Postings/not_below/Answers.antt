@@ -22,6 +22,7 @@ returns-then-reaches c =
     (lesser_first words os order c.self.invariant.leads lead) (λ a r f k. search (rules, of_calls)) in
     let reaches = subst (λ qs. n < length qs → is_gt (bytes_cmp word (get_or qs n ([], 0)).0) ≡ false)
     (sym c.self.view_is) (c.reaches.ensures c.if-reaches.true) in
-    let point = lead_point words os order c.self.invariant.leads word lead n c.lead_of-lead.ensures leads bound reaches in
+    let point = lead_point words os order c.self.invariant.leads word lead n c.lead_of-lead.ensures leads bound reaches
+    in
     from_word word ps c.args.self.now c.from.result n c.self.view_is (bound_told words os ps n refl bound) point
     (c.from.ensures ∙ ap (drop n) (sym c.self.view_is))
