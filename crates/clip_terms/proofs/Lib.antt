@@ -4,6 +4,7 @@ pub mod FrontsOfTerms
 pub mod Headings
 pub mod KeysByField
 pub mod LeadsOfTerms
+pub mod MarkedLeads
 pub mod MarkedRuns
 pub mod Merging
 pub mod NumberedKeys

@@ -5,6 +5,7 @@ pub mod FieldNumbers
 pub mod FieldTerms
 pub mod Fronts
 pub mod KeysByField
+pub mod LeadMarks
 pub mod Leads
 pub mod Merging
 pub mod Numbers

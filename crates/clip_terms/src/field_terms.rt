@@ -1,5 +1,5 @@
 //! The terms of one field, found by the first bytes of their texts.
-ghost use Rattle.std.specs.Prelude.{◌≡◌, ℕ, true, ◌<◌, ◌≤◌, ◌^◌, if◌then◌else◌, OnOk, map, length, slice_index};
+ghost use Rattle.std.specs.Prelude.{◌≡◌, ℕ, true, Some, ◌<◌, ◌≤◌, ◌^◌, if◌then◌else◌, OnOk, map, length, slice_index};
 ghost use Rattle.std.specs.Str.{bytes_eq, IsUtf8};
 ghost use Rattle.std.specs.List.{All};
 ghost use Rattle.clip_extract.specs.Covering.{front_keys};
@@ -9,8 +9,9 @@ ghost use Rattle.clip_terms.specs.Steps.Fronts.{AddsNumbersOf};
 ghost use Rattle.clip_terms.specs.Steps.Leads.{AreLeads, AreShortLengths, NeverFall, TextsRise, IsPlaceOf, IsPast};
 ghost use Rattle.clip_terms.specs.Steps.KeysByField.{ordered_keys};
 
+use crate::hints::{Hints, SLOTS_OF_A_WORD};
+use crate::lead_marks::LeadMarks;
 use crate::leads::Sought;
-use crate::likely::{SIDE_BY_SIDE, likely_places};
 use crate::terms::Terms;
 use clip_extract::{Key, has_front_key};
 use clip_meaning::Field;
@@ -29,6 +30,8 @@ pub struct FieldTerms<'a> {
     keys: &'a [Key],
     leads: &'a [u64],
     lengths: &'a [u8],
+    marks: &'a LeadMarks,
+    hints: &'a Hints,
     field: &'a str,
     words: Range<usize>,
     fronts: Range<usize>,
@@ -79,20 +82,6 @@ fn first_of_lead(leads: &[u64], part: &Range<usize>, lead: u64) -> usize
         low += step_if(leads[low + (step - 1)] < lead, bits);
     }
     low
-}
-
-/// The first place in a part whose lead is not below this one, as `first_of_lead` finds it; a place that is likely
-/// to be it is looked at first.
-fn first_near(leads: &[u64], part: &Range<usize>, lead: u64, likely: usize) -> usize
-    requires within { part.now.end ≤ length leads.now }
-    requires rise { NeverFall leads.now part.now.start part.now.end }
-    ensures from { part.now.start ≤ result }
-    ensures below { (n : ℕ) → part.now.start ≤ n → n < result → slice_index leads.now n < lead }
-{
-    if part.start < likely && likely <= part.end && leads[likely - 1] < lead {
-        return likely;
-    }
-    first_of_lead(leads, part, lead)
 }
 
 /// The first place from one on whose lead is not below this one.
@@ -149,15 +138,13 @@ fn place_among(
 }
 
 /// Where the key of a text is among keys whose texts rise. Mostly this is the first key of the text's lead, or no
-/// key has that lead: so the first is looked for by leads alone, from the place on where it is likely, and a key is
-/// looked at only where it has the lead.
+/// key has that lead: so the first is looked for by leads alone, and a key is looked at only where it has the lead.
 fn place_of(
     keys: &[Key],
     leads: &[u64],
     lengths: &[u8],
     part: &Range<usize>,
     sought: &Sought<'_>,
-    likely: usize,
 ) -> Option<usize>
     requires within { part.now.end ≤ length keys.now }
     requires leads { AreLeads (map key_of keys.now) leads.now }
@@ -166,7 +153,7 @@ fn place_of(
     ensures { IsPlaceOf (map key_of keys.now) part.now.start part.now.end sought.now result }
 {
     let lead = sought.lead();
-    let first = first_near(leads, part, lead, likely);
+    let first = first_of_lead(leads, part, lead);
     if first >= part.end {
         return None;
     }
@@ -180,6 +167,52 @@ fn place_of(
     }
 }
 
+/// Whether the key of a text is at a place of a part.
+fn is_at(
+    keys: &[Key],
+    leads: &[u64],
+    lengths: &[u8],
+    part: &Range<usize>,
+    sought: &Sought<'_>,
+    place: usize,
+) -> bool
+    requires within { part.now.end ≤ length keys.now }
+    requires leads { AreLeads (map key_of keys.now) leads.now }
+    requires lengths { AreShortLengths (map key_of keys.now) lengths.now }
+    ensures { result ≡ true
+        → IsPlaceOf (map key_of keys.now) part.now.start part.now.end sought.now (Some place) }
+{
+    if place < part.start || place >= part.end {
+        return false;
+    }
+    sought.is_text_of(&keys[place], leads[place], lengths[place])
+}
+
+/// Where the key of a text is among keys whose texts rise. The places where it likely is are looked at first.
+fn place_near(
+    keys: &[Key],
+    leads: &[u64],
+    lengths: &[u8],
+    part: &Range<usize>,
+    sought: &Sought<'_>,
+    hints: &Hints,
+) -> Option<usize>
+    requires within { part.now.end ≤ length keys.now }
+    requires leads { AreLeads (map key_of keys.now) leads.now }
+    requires lengths { AreShortLengths (map key_of keys.now) lengths.now }
+    requires rise { TextsRise (map key_of keys.now) part.now.start part.now.end }
+    ensures { IsPlaceOf (map key_of keys.now) part.now.start part.now.end sought.now result }
+{
+    let first = hints.slot(sought.lead(), part.start);
+    for step in 0..SLOTS_OF_A_WORD {
+        let likely = hints.place(first.wrapping_add(step));
+        if is_at(keys, leads, lengths, part, sought, likely) {
+            return Some(likely);
+        }
+    }
+    place_of(keys, leads, lengths, part, sought)
+}
+
 impl<'a> FieldTerms<'a> {
     /// Looks for the words and the fronts of a field among terms.
     pub(crate) fn of(terms: &'a Terms, field: &'a str) -> FieldTerms<'a>
@@ -191,6 +224,8 @@ impl<'a> FieldTerms<'a> {
             keys: terms.keys(),
             leads: terms.leads(),
             lengths: terms.lengths(),
+            marks: terms.marks(),
+            hints: terms.hints(),
             field,
             words,
             fronts,
@@ -204,36 +239,33 @@ impl<'a> FieldTerms<'a> {
         self.field == field
     }
 
-    /// The number of a word of the field, `None` where it is no term. Takes no memory. Cost: a binary search among the
-    /// field's words.
+    /// The number of a word of the field, `None` where it is no term. Takes no memory. Cost: a look at a bit, which
+    /// tells most words that are no terms; some looks where the word likely is; and where it is not there, a binary
+    /// search among the field's words.
     pub fn word(&self, word: &str) -> Option<u32>
         ensures { result ≡ number_of self.now.terms (Word self.now.field word.now) }
     {
-        self.word_near(&Sought::of(word), self.words.start)
+        self.number(&Sought::of(word))
     }
 
-    /// The number of a word of the field, `None` where it is no term, which is likely at a place if it is one.
-    pub(crate) fn word_near(&self, word: &Sought<'_>, likely: usize) -> Option<u32>
+    /// The number of a word of the field, `None` where it is no term. Takes no memory. Cost: that of `word`.
+    pub(crate) fn number(&self, word: &Sought<'_>) -> Option<u32>
         ensures { result ≡ number_of self.now.terms (Word self.now.field word.now) }
     {
-        match place_of(
+        if !self.marks.may_have(word.lead()) {
+            return None;
+        }
+        match place_near(
             self.keys,
             self.leads,
             self.lengths,
             &self.words,
             word,
-            likely,
+            self.hints,
         ) {
             Some(place) => Some(place as u32),
             None => None,
         }
-    }
-
-    /// For each of the first of these leads, where a word of that lead likely is, if it is not before a place. Cost: that
-    /// of binary searches, which wait for memory together.
-    pub(crate) fn likely_places(&self, from: usize, leads: &[u64]) -> [usize; SIDE_BY_SIDE] {
-        let part = self.words.start.max(from)..self.words.end;
-        likely_places(self.leads, &part, leads)
     }
 
     /// The number of a front of the field, `None` where it is no term. Takes no memory. Cost: a binary search among the
@@ -242,15 +274,7 @@ impl<'a> FieldTerms<'a> {
         ensures { result ≡ number_of self.now.terms (Front self.now.field text.now) }
     {
         let text = Sought::of(text);
-        let likely = self.fronts.start;
-        match place_of(
-            self.keys,
-            self.leads,
-            self.lengths,
-            &self.fronts,
-            &text,
-            likely,
-        ) {
+        match place_of(self.keys, self.leads, self.lengths, &self.fronts, &text) {
             Some(place) => Some(place as u32),
             None => None,
         }

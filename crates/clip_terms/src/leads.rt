@@ -1,5 +1,5 @@
 //! Keys by rank, field and text, and the leads and lengths of their texts.
-ghost use Rattle.std.specs.Prelude.{◌≡◌, IfOk, map};
+ghost use Rattle.std.specs.Prelude.{◌≡◌, true, IfOk, map};
 ghost use Rattle.clip_words.specs.Order.{bytes_cmp};
 ghost use Rattle.clip_meaning.specs.Leads.{IsLead};
 ghost use Rattle.clip_extract.specs.Keys.{key_of, text_of};
@@ -116,6 +116,19 @@ impl<'a> Sought<'a> {
         ensures { IsLead self.now result }
     {
         self.lead
+    }
+
+    /// Whether the text is that of a key, of this lead and this short length. Looks at them only where these are the
+    /// same and don't settle it.
+    pub(crate) fn is_text_of(&self, key: &Key, lead: u64, length: u8) -> bool
+        requires lead { IsLead (text_of (key_of key.now)) lead }
+        requires length { IsShortLength (text_of (key_of key.now)) length }
+        ensures { result ≡ true → text_of (key_of key.now) ≡ self.now }
+    {
+        if lead != self.lead || length != self.length {
+            return false;
+        }
+        length <= 8 || key.text() == self.text()
     }
 
     /// Compares the text of a key, of this lead and this short length, with the text. Looks at them only where the

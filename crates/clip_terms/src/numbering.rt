@@ -1,5 +1,5 @@
 //! The numbers of an article's keys.
-ghost use Rattle.std.specs.Prelude.{◌≡◌, ◌++◌, [], ◌<◌, IfOk, OnOk, length, map, slice_index};
+ghost use Rattle.std.specs.Prelude.{◌≡◌, ◌++◌, [], IfOk, OnOk, map};
 ghost use Rattle.std.specs.Prelude.{option_map, option_to_list};
 ghost use Rattle.std.specs.List.Sorted.{IsStrictlySortedBy};
 ghost use Rattle.clip_extract.specs.Keys.{Word, Front, key_of, key_cmp, text_of};
@@ -11,34 +11,14 @@ ghost use Rattle.clip_meaning.specs.Leads.{IsLead};
 ghost use Rattle.clip_terms.specs.Steps.Leads.{AreLeads, IsShortLength, AreShortLengths};
 ghost use Rattle.clip_terms.specs.Steps.Numbers.{known};
 ghost use Rattle.clip_terms.specs.Steps.Fronts.{other_fronts, asked_fronts, AddsNumbersOf};
-ghost use Rattle.clip_terms.specs.Steps.Sought.{text_sought};
 
 use crate::field_terms::FieldTerms;
 use crate::leads::{Sought, SoughtText};
-use crate::likely::LikelyPlaces;
 use crate::terms::Terms;
 use clip_extract::{Fronts, Key};
 use clip_meaning::{Field, Postings};
 use clip_words::NoMemory;
 use std::alloc::Global;
-
-/// The number of a word of a field, none of one that is no term. The first of these leads is that of the word, whose
-/// short length this is, and the others are likely those of the words after it.
-fn word_number(
-    of_field: &FieldTerms<'_>,
-    likely: &mut LikelyPlaces,
-    word: SoughtText<'_>,
-    leads: &[u64],
-    short: u8,
-) -> Option<u32>
-    requires some { 0 < length leads.now }
-    requires lead { IsLead (text_sought word) (slice_index leads.now 0) }
-    requires short { IsShortLength (text_sought word) short }
-    ensures { result ≡ number_of of_field.now.terms (Word of_field.now.field (text_sought word.entry)) }
-{
-    let place = likely.next(of_field, leads);
-    of_field.word_near(&Sought::with(word, leads[0], short), place)
-}
 
 /// The numbers of words of a field, beside which their leads and short lengths are given, in order; none of a word that
 /// is no term.
@@ -55,30 +35,24 @@ pub(crate) fn word_numbers(
         (map (λ w. Word of_field.now.field w.now) words.now)) }
 {
     let mut numbers = Vec::with_capacity(alloc, words.len())?;
-    let mut likely = LikelyPlaces::none();
     for place in 0..words.len() {
-        let word = SoughtText::Text(words[place]);
-        let from = &leads[place..];
-        let short = lengths[place];
-        numbers.push(word_number(of_field, &mut likely, word, from, short))?;
+        let word = Sought::with(SoughtText::Text(words[place]), leads[place], lengths[place]);
+        numbers.push(of_field.number(&word))?;
     }
     Ok(numbers)
 }
 
-/// The number of a key, none of a key that is no term. The first of these leads is that of the key's text, whose short
-/// length this is, and the others are likely those of the keys after it. The terms of a field become those of its
-/// field.
+/// The number of a key, of whose text the lead and the short length are given, none of a key that is no term. The terms
+/// of a field become those of its field.
 fn key_number<'a>(
     terms: &'a Terms,
     of_field: &mut FieldTerms<'a>,
-    likely: &mut LikelyPlaces,
     key: &'a Key,
-    leads: &[u64],
+    lead: u64,
     short: u8,
 ) -> Option<u32>
     requires terms { of_field.old.terms ≡ terms.now }
-    requires some { 0 < length leads.now }
-    requires lead { IsLead (text_of (key_of key.now)) (slice_index leads.now 0) }
+    requires lead { IsLead (text_of (key_of key.now)) lead }
     requires short { IsShortLength (text_of (key_of key.now)) short }
     ensures terms { of_field.new.terms ≡ terms.now }
     ensures number { result ≡ number_of terms.now (key_of key.now) }
@@ -88,9 +62,8 @@ fn key_number<'a>(
     };
     if !of_field.is_of(field) {
         *of_field = terms.of_field(field);
-        likely.clear();
     }
-    word_number(of_field, likely, SoughtText::Word(word), leads, short)
+    of_field.number(&Sought::with(SoughtText::Word(word), lead, short))
 }
 
 /// The numbers of keys, beside which their leads and short lengths are given, in order; none of a key that is no term.
@@ -108,12 +81,15 @@ pub(crate) fn key_numbers<'a>(
 {
     let mut numbers = Vec::with_capacity(alloc, keys.len())?;
     let mut of_field = terms.of_field("");
-    let mut likely = LikelyPlaces::none();
     for place in 0..keys.len() {
-        let key = &keys[place];
-        let from = &leads[place..];
-        let short = lengths[place];
-        numbers.push(key_number(terms, &mut of_field, &mut likely, key, from, short))?;
+        let number = key_number(
+            terms,
+            &mut of_field,
+            &keys[place],
+            leads[place],
+            lengths[place],
+        );
+        numbers.push(number)?;
     }
     Ok(numbers)
 }

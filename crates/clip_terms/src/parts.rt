@@ -24,6 +24,13 @@ pub(crate) struct FieldPart {
     fronts: Range<usize>,
 }
 
+impl FieldPart {
+    /// Where the field's words are. Constant time.
+    pub(crate) fn words(&self) -> Range<usize> {
+        self.words.start..self.words.end
+    }
+}
+
 /// Where the keys of a rank and a field stand among keys in order.
 fn part_of(keys: &[Key], rank: u8, field: &str) -> Range<usize>
     requires { IsStrictlySortedBy key_cmp (map key_of keys.now) }

@@ -4,9 +4,12 @@ ghost use Rattle.std.specs.List.Sorted.{IsStrictlySortedBy};
 ghost use Rattle.clip_extract.specs.Keys.{Word, Front, key_of, key_cmp, in_order};
 ghost use Rattle.clip_terms.specs.Terms.{number_of, term_at};
 ghost use Rattle.clip_terms.specs.Steps.Leads.{heading, AreLeads, AreShortLengths, IsPart};
+ghost use Rattle.clip_terms.specs.Steps.LeadMarks.{AreMarked};
 
 use crate::field_terms::FieldTerms;
 use crate::heads::{Head, head_leads, head_lengths, keys_of};
+use crate::hints::Hints;
+use crate::lead_marks::LeadMarks;
 use crate::leads::{leads_of, lengths_of};
 use crate::numbering::key_numbers;
 use crate::parts::{FieldPart, parts_of, ranges_of, words_of};
@@ -29,6 +32,8 @@ pub struct Terms {
     leads: Vec<u64>,
     lengths: Vec<u8>,
     parts: Vec<FieldPart>,
+    marks: LeadMarks,
+    hints: Hints,
 }
 
 impl Drop for Terms {
@@ -38,6 +43,8 @@ impl Drop for Terms {
             leads: _,
             lengths: _,
             parts: _,
+            marks: _,
+            hints: _,
         } = self;
     }
 }
@@ -48,6 +55,7 @@ impl Model for Terms {
     ghost use Rattle.std.specs.List.Sorted.{IsStrictlySortedBy};
     ghost use Rattle.clip_extract.specs.Keys.{KeyValue, key_of, key_cmp};
     ghost use Rattle.clip_terms.specs.Steps.Leads.{AreLeads, AreShortLengths};
+    ghost use Rattle.clip_terms.specs.Steps.LeadMarks.{AreMarked};
     ghost use Rattle.clip_terms.specs.Steps.Parts.{IsFieldPart};
     ghost use Rattle.clip_terms.specs.declared.terms.TheConstants.{MOST_TERMS};
 
@@ -58,7 +66,8 @@ impl Model for Terms {
     ghost invariant = { λ t. IsStrictlySortedBy key_cmp (map key_of t.keys.items) × (length t.keys.items ≤ MOST_TERMS)
         × AreLeads (map key_of t.keys.items) t.leads.items
         × AreShortLengths (map key_of t.keys.items) t.lengths.items
-        × All (IsFieldPart (map key_of t.keys.items)) t.parts.items };
+        × All (IsFieldPart (map key_of t.keys.items)) t.parts.items
+        × AreMarked (map key_of t.keys.items) t.marks };
 }
 
 impl Terms {
@@ -76,11 +85,15 @@ impl Terms {
         let leads = leads_of(*keys.allocator(), &keys)?;
         let lengths = lengths_of(*keys.allocator(), &keys)?;
         let parts = parts_of(*keys.allocator(), &keys)?;
+        let marks = LeadMarks::of(*keys.allocator(), &leads)?;
+        let hints = Hints::of(*keys.allocator(), &leads, &parts)?;
         Ok(Terms {
             keys,
             leads,
             lengths,
             parts,
+            marks,
+            hints,
         })
     }
 
@@ -99,11 +112,15 @@ impl Terms {
         let leads = head_leads(alloc, heads)?;
         let lengths = head_lengths(alloc, heads)?;
         let parts = parts_of(alloc, &keys)?;
+        let marks = LeadMarks::of(alloc, &leads)?;
+        let hints = Hints::of(alloc, &leads, &parts)?;
         Ok(Terms {
             keys,
             leads,
             lengths,
             parts,
+            marks,
+            hints,
         })
     }
 
@@ -171,6 +188,18 @@ impl Terms {
         ensures { AreShortLengths self.now result.now }
     {
         &self.lengths
+    }
+
+    /// Marks of the leads of the keys' texts. Constant time.
+    pub(crate) fn marks(&self) -> &LeadMarks
+        ensures { AreMarked self.now result.now }
+    {
+        &self.marks
+    }
+
+    /// Where words likely are among the keys. Constant time.
+    pub(crate) fn hints(&self) -> &Hints {
+        &self.hints
     }
 
     /// Where the words of a field are, and its fronts. Takes no memory. Cost: a binary search among the fields.

@@ -8,8 +8,8 @@ use Rattle.clip_terms.proofs.LeadsOfTerms.{leads_long, lead_at, lengths_long, le
 use Rattle.clip_terms.proofs.LeadsOfTerms.{all_above}
 use Rattle.clip_terms.proofs.field_terms.place_of.Goals as goal
 
-pub first_near-first-requires-clause-within : goal.first_near-first-requires-clause-within
-first_near-first-requires-clause-within c =
+pub first_of_lead-first-requires-clause-within : goal.first_of_lead-first-requires-clause-within
+first_of_lead-first-requires-clause-within c =
     omega (
       arith,
       c.requires.within,
@@ -17,8 +17,8 @@ first_near-first-requires-clause-within c =
       length-map c.args.keys.now key_of,
     )
 
-pub first_near-first-requires-clause-rise : goal.first_near-first-requires-clause-rise
-first_near-first-requires-clause-rise c =
+pub first_of_lead-first-requires-clause-rise : goal.first_of_lead-first-requires-clause-rise
+first_of_lead-first-requires-clause-rise c =
     never_fall (map key_of c.args.keys.now) c.args.leads.now c.args.part.now.start c.args.part.now.end c.requires.leads
     (omega (arith, c.requires.within, length-map c.args.keys.now key_of)) c.requires.rise
 
@@ -28,10 +28,10 @@ returns-then-first-part c =
     let start = c.args.part.now.start in
     let end = c.args.part.now.end in
     let within : end ≤ length ts = omega (arith, c.requires.within, length-map c.args.keys.now key_of) in
-    let upto : end ≤ c.first_near-first.result = c.if-first-part.true in
+    let upto : end ≤ c.first_of_lead-first.result = c.if-first-part.true in
     found_nowhere ts start end c.args.sought.now end end (omega arith)
     (all_below ts c.args.leads.now start end c.args.sought.now c.lead-lead.result c.requires.leads c.lead-lead.ensures
-    within (λ n a b. c.first_near-first.ensures.below n a (omega arith)))
+    within (λ n a b. c.first_of_lead-first.ensures.below n a (omega arith)))
     (λ n d a b. absurd (omega arith))
 
 pub bounds-leads-first : goal.bounds-leads-first
@@ -48,14 +48,14 @@ returns-then-leads-first c =
     let ts = map key_of c.args.keys.now in
     let start = c.args.part.now.start in
     let end = c.args.part.now.end in
-    let first = c.first_near-first.result in
+    let first = c.first_of_lead-first.result in
     let within : end ≤ length ts = omega (arith, c.requires.within, length-map c.args.keys.now key_of) in
     found_nowhere ts start end c.args.sought.now first first (omega arith)
     (all_below ts c.args.leads.now start first c.args.sought.now c.lead-lead.result c.requires.leads
-    c.lead-lead.ensures (omega (arith, within, c.if-first-part.false)) c.first_near-first.ensures.below)
+    c.lead-lead.ensures (omega (arith, within, c.if-first-part.false)) c.first_of_lead-first.ensures.below)
     (all_above ts c.args.leads.now start end c.args.sought.now c.lead-lead.result first c.requires.leads
     c.lead-lead.ensures within
-    (never_fall ts c.args.leads.now start end c.requires.leads within c.requires.rise) c.first_near-first.ensures.from
+    (never_fall ts c.args.leads.now start end c.requires.leads within c.requires.rise) c.first_of_lead-first.ensures.from
     c.if-leads-first.true)
 
 pub bounds-leads-first-2 : goal.bounds-leads-first-2
@@ -71,7 +71,7 @@ bounds-leads-first-2 c =
 pub order-requires-clause-lead : goal.order-requires-clause-lead
 order-requires-clause-lead c =
     let keys = c.args.keys.now in
-    let first = c.first_near-first.result in
+    let first = c.first_of_lead-first.result in
     let k = c.index-keys-first.result in
     let inside : first < length keys = omega (arith, c.if-first-part.false, c.requires.within) in
     subst (λ (t : KeyValue). IsLead (text_of t) (get_or c.args.leads.now first 0))
@@ -84,13 +84,13 @@ returns-in-Less c =
     let keys = c.args.keys.now in
     let ts = map key_of keys in
     let start = c.args.part.now.start in
-    let first = c.first_near-first.result in
+    let first = c.first_of_lead-first.result in
     let k = c.index-keys-first.result in
     let inside : first < length keys = omega (arith, c.if-first-part.false, c.requires.within) in
     found_later ts start (first + 1) c.args.part.now.end c.args.sought.now
-    (omega (arith, c.first_near-first.ensures.from))
+    (omega (arith, c.first_of_lead-first.ensures.from))
     (below_middle ts start c.args.part.now.end c.args.sought.now c.requires.rise first (key_of k)
-    (read_at keys first k inside c.index-keys-first.is) c.first_near-first.ensures.from
+    (read_at keys first k inside c.index-keys-first.is) c.first_of_lead-first.ensures.from
     (omega (arith, c.if-first-part.false)) (sym c.in-Less.ensures))
     c.place_among.result c.place_among.ensures
 
@@ -100,30 +100,30 @@ returns-in-Greater c =
     let ts = map key_of keys in
     let start = c.args.part.now.start in
     let end = c.args.part.now.end in
-    let first = c.first_near-first.result in
+    let first = c.first_of_lead-first.result in
     let k = c.index-keys-first.result in
     let inside : first < length keys = omega (arith, c.if-first-part.false, c.requires.within) in
     found_nowhere ts start end c.args.sought.now first first (omega arith)
     (all_below ts c.args.leads.now start first c.args.sought.now c.lead-lead.result c.requires.leads
-    c.lead-lead.ensures (omega (arith, length-map keys key_of)) c.first_near-first.ensures.below)
+    c.lead-lead.ensures (omega (arith, length-map keys key_of)) c.first_of_lead-first.ensures.below)
     (above_middle ts start end c.args.sought.now c.requires.rise first (key_of k)
-    (read_at keys first k inside c.index-keys-first.is) c.first_near-first.ensures.from
+    (read_at keys first k inside c.index-keys-first.is) c.first_of_lead-first.ensures.from
     (omega (arith, c.if-first-part.false)) (sym c.in-Greater.ensures))
 
 pub returns-in-Equal : goal.returns-in-Equal
 returns-in-Equal c =
     let keys = c.args.keys.now in
-    let first = c.first_near-first.result in
+    let first = c.first_of_lead-first.result in
     let k = c.index-keys-first.result in
     let inside : first < length keys = omega (arith, c.if-first-part.false, c.requires.within) in
     found_middle (map key_of keys) c.args.part.now.start c.args.part.now.end c.args.sought.now c.requires.rise first
-    (key_of k) (read_at keys first k inside c.index-keys-first.is) c.first_near-first.ensures.from
+    (key_of k) (read_at keys first k inside c.index-keys-first.is) c.first_of_lead-first.ensures.from
     (omega (arith, c.if-first-part.false)) (sym c.in-Equal.ensures)
 
 pub order-requires-clause-length : goal.order-requires-clause-length
 order-requires-clause-length c =
     let keys = c.args.keys.now in
-    let first = c.first_near-first.result in
+    let first = c.first_of_lead-first.result in
     let k = c.index-keys-first.result in
     let inside : first < length keys = omega (arith, c.if-first-part.false, c.requires.within) in
     subst (λ (t : KeyValue). IsShortLength (text_of t) (get_or c.args.lengths.now first 0))

@@ -1,4 +1,4 @@
-use Rattle.std.proofs.Common.{◌<◌, ◌-◌, ◌∷◌, ◌++◌, [], map, length, take, get_or, sym, ap, subst, ◌∙◌, arith}
+use Rattle.std.proofs.Common.{◌∷◌, ◌++◌, [], map, take, get_or, sym, ap, subst, ◌∙◌, arith}
 use Rattle.std.proofs.lemmas.List.{length-map, map_more, map_push, take_all}
 use Rattle.clip_meaning.specs.Leads.{IsLead}
 use Rattle.clip_extract.specs.Keys.{KeyValue, key_of, text_of}
@@ -6,7 +6,7 @@ use Rattle.clip_extract.specs.declared.key.Key.{Key}
 use Rattle.clip_terms.specs.Terms.{number_of}
 use Rattle.clip_terms.specs.FieldTerms.{FieldTermsValue}
 use Rattle.clip_terms.specs.Steps.Leads.{IsShortLength}
-use Rattle.clip_terms.proofs.LeadsOfTerms.{leads_long, lead_at, lengths_long, length_at, read_at, some_left, first_left}
+use Rattle.clip_terms.proofs.LeadsOfTerms.{leads_long, lead_at, lengths_long, length_at, read_at}
 use Rattle.clip_terms.proofs.numbering.key_numbers.Goals as goal
 
 pub loop-place-init : goal.loop-place-init
@@ -16,8 +16,8 @@ loop-place-init c = record {
       ap (λ (v : FieldTermsValue). v.terms) c.of_field-of_field.ensures;
 }
 
-pub key_number-requires-clause-terms : goal.key_number-requires-clause-terms
-key_number-requires-clause-terms c = c.loop-place.invariant.terms
+pub key_number-number-requires-clause-terms : goal.key_number-number-requires-clause-terms
+key_number-number-requires-clause-terms c = c.loop-place.invariant.terms
 
 pub loop-place-preserved : goal.loop-place-preserved
 loop-place-preserved c =
@@ -29,36 +29,18 @@ loop-place-preserved c =
     record {
       numbers =
           c.in_ok-push.ensures.items
-          ∙ ap (λ numbers. numbers ++ c.key_number.result ∷ []) c.loop-place.invariant.numbers
-          ∙ ap (λ n. map number before ++ n ∷ []) (c.key_number.ensures.number
+          ∙ ap (λ numbers. numbers ++ c.key_number-number.result ∷ []) c.loop-place.invariant.numbers
+          ∙ ap (λ n. map number before ++ n ∷ []) (c.key_number-number.ensures.number
           ∙ ap (λ (k : Key). number (key_of k)) c.index-keys-place.is)
           ∙ sym (ap (map number) (map_more key_of keys i key c.loop-place-test.true)
           ∙ map_push number before (key_of (get_or keys i key)));
-      terms = c.key_number.ensures.terms;
+      terms = c.key_number-number.ensures.terms;
     }
 
 pub returns : goal.returns
 returns c = c.loop-place.invariant.numbers
     ∙ ap (λ keys. map (number_of c.args.terms.now) (map key_of keys))
     (take_all c.loop-place.place c.args.keys.now c.loop-place-test.false)
-
-pub slice_bounds-from-count : goal.slice_bounds-from-count
-slice_bounds-from-count c =
-    omega (
-      arith,
-      c.loop-place-test.true,
-      leads_long (map key_of c.args.keys.now) c.args.leads.now c.requires.leads,
-      length-map c.args.keys.now key_of,
-    )
-
-pub slice_bounds-from-start : goal.slice_bounds-from-start
-slice_bounds-from-start c =
-    omega (
-      arith,
-      c.loop-place-test.true,
-      leads_long (map key_of c.args.keys.now) c.args.leads.now c.requires.leads,
-      length-map c.args.keys.now key_of,
-    )
 
 pub bounds-lengths-place : goal.bounds-lengths-place
 bounds-lengths-place c =
@@ -69,41 +51,28 @@ bounds-lengths-place c =
       length-map c.args.keys.now key_of,
     )
 
-pub key_number-requires-clause-some : goal.key_number-requires-clause-some
-key_number-requires-clause-some c =
-    let leads = c.args.leads.now in
-    let place = c.loop-place.place in
-    let inside : place < length leads =
+pub bounds-leads-place : goal.bounds-leads-place
+bounds-leads-place c =
     omega (
       arith,
       c.loop-place-test.true,
-      leads_long (map key_of c.args.keys.now) leads c.requires.leads,
+      leads_long (map key_of c.args.keys.now) c.args.leads.now c.requires.leads,
       length-map c.args.keys.now key_of,
-    ) in
-    some_left (length leads - place) place leads (omega (arith, inside)) inside
+    )
 
-pub key_number-requires-clause-lead : goal.key_number-requires-clause-lead
-key_number-requires-clause-lead c =
+pub key_number-number-requires-clause-lead : goal.key_number-number-requires-clause-lead
+key_number-number-requires-clause-lead c =
     let keys = c.args.keys.now in
     let leads = c.args.leads.now in
     let place = c.loop-place.place in
     let k = c.index-keys-place.result in
-    let inside : place < length leads =
-    omega (
-      arith,
-      c.loop-place-test.true,
-      leads_long (map key_of keys) leads c.requires.leads,
-      length-map keys key_of,
-    ) in
-    subst (IsLead (text_of (key_of k)))
-    (sym (first_left (length leads - place) place leads (omega (arith, inside)) inside))
-    (subst (λ (t : KeyValue). IsLead (text_of t) (get_or leads place 0))
+    subst (λ (t : KeyValue). IsLead (text_of t) (get_or leads place 0))
     (read_at keys place k c.loop-place-test.true c.index-keys-place.is (key_of k))
     (lead_at (map key_of keys) leads c.requires.leads place (key_of k)
-    (omega (arith, c.loop-place-test.true, length-map keys key_of))))
+    (omega (arith, c.loop-place-test.true, length-map keys key_of)))
 
-pub key_number-requires-clause-short : goal.key_number-requires-clause-short
-key_number-requires-clause-short c =
+pub key_number-number-requires-clause-short : goal.key_number-number-requires-clause-short
+key_number-number-requires-clause-short c =
     let keys = c.args.keys.now in
     let lengths = c.args.lengths.now in
     let place = c.loop-place.place in

@@ -1,11 +1,11 @@
-use Rattle.std.proofs.Common.{◌<◌, ◌-◌, ◌∷◌, ◌++◌, [], List, map, length, take, get_or, sym, ap, subst, ◌∙◌, arith}
+use Rattle.std.proofs.Common.{◌∷◌, ◌++◌, [], List, map, take, get_or, sym, ap, subst, ◌∙◌, arith}
 use Rattle.std.proofs.Common.{Bor, ℕ}
 use Rattle.std.proofs.lemmas.List.{length-map, get_or-map, map_more, map_push, take_all}
 use Rattle.clip_meaning.specs.Leads.{IsLead}
 use Rattle.clip_extract.specs.Keys.{KeyValue, Word, text_of}
 use Rattle.clip_terms.specs.Terms.{number_of}
 use Rattle.clip_terms.specs.Steps.Leads.{IsShortLength}
-use Rattle.clip_terms.proofs.LeadsOfTerms.{leads_long, lead_at, lengths_long, length_at, some_left, first_left}
+use Rattle.clip_terms.proofs.LeadsOfTerms.{leads_long, lead_at, lengths_long, length_at}
 use Rattle.clip_terms.proofs.numbering.word_numbers.Goals as goal
 
 -- what is read past the last word
@@ -23,8 +23,9 @@ loop-place-preserved c =
     let key = λ (w : Bor (List ℕ)). Word c.args.of_field.now.field w.now in
     let before = map key (take i words) in
     c.in_ok-push.ensures.items
-    ∙ ap (λ numbers. numbers ++ c.word_number.result ∷ []) c.loop-place.invariant
-    ∙ ap (λ n. map number before ++ n ∷ []) c.word_number.ensures
+    ∙ ap (λ numbers. numbers ++ c.number.result ∷ []) c.loop-place.invariant
+    ∙ ap (λ n. map number before ++ n ∷ []) c.number.ensures
+    ∙ ap (λ (w : List ℕ). map number before ++ number (Word c.args.of_field.now.field w) ∷ []) c.with-word.ensures
     ∙ sym (ap (map number) (map_more key words i no_word c.loop-place-test.true)
     ∙ map_push number before (key (get_or words i no_word)))
 
@@ -34,26 +35,6 @@ returns c =
     c.loop-place.invariant
     ∙ ap (λ (words : List (Bor (List ℕ))). map (number_of c.args.of_field.now.terms) (map key words))
     (take_all c.loop-place.place c.args.words.now c.loop-place-test.false)
-
-pub slice_bounds-from-count : goal.slice_bounds-from-count
-slice_bounds-from-count c =
-    let key = λ (w : Bor (List ℕ)). Word c.args.of_field.now.field w.now in
-    omega (
-      arith,
-      c.loop-place-test.true,
-      leads_long (map key c.args.words.now) c.args.leads.now c.requires.leads,
-      length-map c.args.words.now key,
-    )
-
-pub slice_bounds-from-start : goal.slice_bounds-from-start
-slice_bounds-from-start c =
-    let key = λ (w : Bor (List ℕ)). Word c.args.of_field.now.field w.now in
-    omega (
-      arith,
-      c.loop-place-test.true,
-      leads_long (map key c.args.words.now) c.args.leads.now c.requires.leads,
-      length-map c.args.words.now key,
-    )
 
 pub bounds-lengths-place : goal.bounds-lengths-place
 bounds-lengths-place c =
@@ -65,42 +46,29 @@ bounds-lengths-place c =
       length-map c.args.words.now key,
     )
 
-pub word_number-requires-clause-some : goal.word_number-requires-clause-some
-word_number-requires-clause-some c =
-    let leads = c.args.leads.now in
-    let place = c.loop-place.place in
+pub bounds-leads-place : goal.bounds-leads-place
+bounds-leads-place c =
     let key = λ (w : Bor (List ℕ)). Word c.args.of_field.now.field w.now in
-    let inside : place < length leads =
     omega (
       arith,
       c.loop-place-test.true,
-      leads_long (map key c.args.words.now) leads c.requires.leads,
+      leads_long (map key c.args.words.now) c.args.leads.now c.requires.leads,
       length-map c.args.words.now key,
-    ) in
-    some_left (length leads - place) place leads (omega (arith, inside)) inside
+    )
 
-pub word_number-requires-clause-lead : goal.word_number-requires-clause-lead
-word_number-requires-clause-lead c =
+pub with-word-requires-clause-lead : goal.with-word-requires-clause-lead
+with-word-requires-clause-lead c =
     let words = c.args.words.now in
     let leads = c.args.leads.now in
     let place = c.loop-place.place in
     let key = λ (w : Bor (List ℕ)). Word c.args.of_field.now.field w.now in
-    let inside : place < length leads =
-    omega (
-      arith,
-      c.loop-place-test.true,
-      leads_long (map key words) leads c.requires.leads,
-      length-map words key,
-    ) in
-    subst (IsLead (get_or words place no_word).now)
-    (sym (first_left (length leads - place) place leads (omega (arith, inside)) inside))
-    (subst (λ (t : KeyValue). IsLead (text_of t) (get_or leads place 0))
+    subst (λ (t : KeyValue). IsLead (text_of t) (get_or leads place 0))
     (get_or-map key words place no_word (key no_word) c.loop-place-test.true)
     (lead_at (map key words) leads c.requires.leads place (key no_word)
-    (omega (arith, c.loop-place-test.true, length-map words key))))
+    (omega (arith, c.loop-place-test.true, length-map words key)))
 
-pub word_number-requires-clause-short : goal.word_number-requires-clause-short
-word_number-requires-clause-short c =
+pub with-word-requires-clause-length : goal.with-word-requires-clause-length
+with-word-requires-clause-length c =
     let words = c.args.words.now in
     let lengths = c.args.lengths.now in
     let place = c.loop-place.place in

@@ -4,10 +4,11 @@ use Rattle.clip_terms.specs.Terms.{number_of}
 use Rattle.clip_terms.specs.FieldTerms.{FieldTermsValue}
 use Rattle.clip_terms.specs.Steps.Leads.{heading}
 use Rattle.clip_terms.proofs.Headings.{texts_rise, placed_number, no_number}
-use Rattle.clip_terms.proofs.field_terms.FieldTerms.word_near.Goals as goal
+use Rattle.clip_terms.proofs.MarkedLeads.{unmarked_nowhere}
+use Rattle.clip_terms.proofs.field_terms.FieldTerms.number.Goals as goal
 
-pub place_of-requires-clause-rise : goal.place_of-requires-clause-rise
-place_of-requires-clause-rise c =
+pub place_near-requires-clause-rise : goal.place_near-requires-clause-rise
+place_near-requires-clause-rise c =
     let t = c.self.inside in
     texts_rise (map key_of t.keys.now) (heading (Word t.field.now [])) t.words.start t.words.end
     c.self.invariant.strict c.self.invariant.words
@@ -25,3 +26,13 @@ returns-in-None c =
     sym (no_number (map key_of t.keys.now) (Word t.field.now c.args.word.now) t.words.start t.words.end
     c.self.invariant.strict c.self.invariant.words c.in-None.ensures)
     ∙ ap (λ (v : FieldTermsValue). number_of v.terms (Word v.field c.args.word.now)) c.self.view_is
+
+pub returns-then-not-may_have : goal.returns-then-not-may_have
+returns-then-not-may_have c =
+    let t = c.self.inside in
+    let ts = map key_of t.keys.now in
+    let word = c.args.word.now in
+    sym (no_number ts (Word t.field.now word) t.words.start t.words.end c.self.invariant.strict c.self.invariant.words
+    (unmarked_nowhere ts t.marks.now t.words.start t.words.end word c.lead.result c.self.invariant.marks c.lead.ensures
+    c.self.invariant.words.within (sym c.may_have.ensures ∙ c.if-not-may_have.true)))
+    ∙ ap (λ (v : FieldTermsValue). number_of v.terms (Word v.field word)) c.self.view_is
