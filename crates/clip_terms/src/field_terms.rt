@@ -255,6 +255,14 @@ impl<'a> FieldTerms<'a> {
         if !self.marks.may_have(word.lead()) {
             return None;
         }
+        self.number_near(word)
+    }
+
+    /// The number of a word of the field, of whose lead there is a mark. A function of its own, so that the look at the
+    /// mark stands in the loops over words.
+    fn number_near(&self, word: &Sought<'_>) -> Option<u32>
+        ensures { result ≡ number_of self.now.terms (Word self.now.field word.now) }
+    {
         match place_near(
             self.keys,
             self.leads,
