@@ -1,11 +1,12 @@
 -- Leads that have their marks.
-use Rattle.std.proofs.Common.{◌≡◌, ℕ, zero, suc, ◌≤◌, Bool, true, false, List, [], ◌∷◌, length, set, get_or}
-use Rattle.std.proofs.Common.{None, refl, sym, ◌∙◌, subst, arith}
-use Rattle.std.proofs.lemmas.Bool.{false≢true}
+use Rattle.std.proofs.Common.{◌≡◌, ℕ, zero, suc, ◌<◌, ◌≤◌, Bool, true, false, List, [], ◌∷◌, length, set, get_or}
+use Rattle.std.proofs.Common.{None, inl, inr, ◌+◌, refl, sym, ap, ◌∙◌, subst, arith}
+use Rattle.std.proofs.lemmas.Bool.{cases_lt, false≢true}
+use Rattle.std.proofs.lemmas.List.{get_or-set_same}
 use Rattle.clip_meaning.specs.Leads.{IsLead}
 use Rattle.clip_extract.specs.Keys.{KeyValue, text_of}
 use Rattle.clip_terms.specs.declared.lead_marks.LeadMarks.{LeadMarks}
-use Rattle.clip_terms.specs.Steps.LeadMarks.{has_mark, HaveMarks, AreMarked}
+use Rattle.clip_terms.specs.Steps.LeadMarks.{bit_of, has_mark, HaveMarks, AreMarked}
 use Rattle.clip_terms.specs.Steps.Leads.{AreLeads, IsPlaceOf}
 use Rattle.clip_terms.proofs.LeadsOfTerms.{leads_long, lead_at}
 
@@ -16,6 +17,23 @@ stays_marked (mark ∷ marks) zero zero is = refl
 stays_marked (mark ∷ marks) zero (suc m) is = is
 stays_marked (mark ∷ marks) (suc n) zero is = is
 stays_marked (mark ∷ marks) (suc n) (suc m) is = stays_marked marks n m is
+
+-- where one more lead is marked, those before it have their marks, and it has its
+pub one_more_marked : (leads : List ℕ) (shift last n bit : ℕ) (marks after : List Bool)
+    → ((m : ℕ) → m < n → get_or marks (bit_of (get_or leads m 0) shift last) false ≡ true)
+    → bit ≡ bit_of (get_or leads n 0) shift last → bit < length marks → after ≡ set marks bit true
+    → (m : ℕ) → m < n + 1 → get_or after (bit_of (get_or leads m 0) shift last) false ≡ true
+one_more_marked leads shift last n bit marks after have is inside more m upto =
+    elim (cases_lt m n) [
+      | inl lt ↦
+          let at = bit_of (get_or leads m 0) shift last in
+          ap (λ (ms : List Bool). get_or ms at false) more ∙ stays_marked marks bit at (have m lt)
+      | inr ge ↦
+          let same : n ≡ m = omega arith in
+          subst (λ (k : ℕ). get_or after (bit_of (get_or leads k 0) shift last) false ≡ true) same
+          (ap (λ (ms : List Bool). get_or ms (bit_of (get_or leads n 0) shift last) false) more
+          ∙ ap (λ (b : ℕ). get_or (set marks bit true) b false) (sym is) ∙ get_or-set_same marks bit true false inside)
+    ]
 
 -- a text has one lead
 pub one_lead : (text : List ℕ) (m n : ℕ) → IsLead text m → IsLead text n → m ≡ n

@@ -276,12 +276,15 @@ impl<'a> FieldTerms<'a> {
         }
     }
 
-    /// The number of a front of the field, `None` where it is no term. Takes no memory. Cost: a binary search among the
-    /// field's fronts.
+    /// The number of a front of the field, `None` where it is no term. Takes no memory. Cost: a look at a bit, which
+    /// tells most fronts that are no terms, and otherwise a binary search among the field's fronts.
     pub fn front(&self, text: &str) -> Option<u32>
         ensures { result ≡ number_of self.now.terms (Front self.now.field text.now) }
     {
         let text = Sought::of(text);
+        if !self.marks.may_have(text.lead()) {
+            return None;
+        }
         match place_of(self.keys, self.leads, self.lengths, &self.fronts, &text) {
             Some(place) => Some(place as u32),
             None => None,

@@ -1,4 +1,4 @@
-use Rattle.std.proofs.Common.{◌<◌, length, map, get_or, subst, arith}
+use Rattle.std.proofs.Common.{◌<◌, length, map, get_or, ap, ◌∙◌, subst, arith}
 use Rattle.std.proofs.lemmas.List.{length-map}
 use Rattle.clip_meaning.specs.Leads.{IsLead}
 use Rattle.clip_extract.specs.Keys.{KeyValue, key_of, text_of}
@@ -47,3 +47,13 @@ is_text_of-requires-clause-length c =
     (read_at keys place k inside c.index-keys-place.is (key_of k))
     (length_at (map key_of keys) c.args.lengths.now c.requires.lengths place (key_of k)
     (omega (arith, inside, length-map keys key_of)))
+
+pub returns : goal.returns
+returns c same =
+    let keys = c.args.keys.now in
+    let k = c.index-keys-place.result in
+    let inside : c.args.place < length keys = omega (arith, c.if-place-part-2.false, c.requires.within) in (
+      c.if-place-part.false,
+      c.if-place-part-2.false,
+      λ d. ap text_of (read_at keys c.args.place k inside c.index-keys-place.is d) ∙ c.is_text_of.ensures same,
+    )
