@@ -11,7 +11,8 @@ use Rattle.clip_terms.specs.Steps.Leads.{AreLeads, IsPlaceOf}
 use Rattle.clip_terms.proofs.LeadsOfTerms.{leads_long, lead_at}
 
 -- what is marked stays so
-pub stays_marked : (marks : List Bool) (n m : ℕ) → get_or marks m false ≡ true → get_or (set marks n true) m false ≡ true
+pub stays_marked : (marks : List Bool) (n m : ℕ) → get_or marks m false ≡ true
+    → get_or (set marks n true) m false ≡ true
 stays_marked [] n m is = is
 stays_marked (mark ∷ marks) zero zero is = refl
 stays_marked (mark ∷ marks) zero (suc m) is = is

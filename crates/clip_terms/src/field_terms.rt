@@ -22,9 +22,10 @@ use std::ops::Range;
 
 /// The terms of one field, and where they are among all terms. Contracts see the terms and the name of the field.
 ///
-/// A word is searched for by its first eight bytes, as a number, among those of the field's words, which lie side by
-/// side; texts are compared only where these bytes are the same and the length does not settle it, since one of them is
-/// longer. Fronts are found by such a search among the field's fronts.
+/// A text whose first eight bytes, as a number, have no mark is no term. Another word is looked for where hints say
+/// that it likely is, and then by these bytes among those of the field's words, which lie side by side; texts are
+/// compared only where these bytes are the same and the length does not settle it, since one of them is longer. Fronts
+/// are found by such a search among the field's fronts.
 #[derive(Drop)]
 pub struct FieldTerms<'a> {
     keys: &'a [Key],

@@ -25,7 +25,8 @@ pub const MOST_TERMS: usize = 4_294_967_295;
 /// Keys in order, each once and numbered from 0. Contracts see the list of the keys.
 ///
 /// The leads and the short lengths of their texts are kept beside them, by which most are told apart without a look at
-/// them, and where the words and the fronts of each field stand.
+/// them, and where the words and the fronts of each field stand; also a mark for each lead, by which most texts that
+/// are none of the keys' are told, and hints of where words are.
 #[derive(Debug)]
 pub struct Terms {
     keys: Vec<Key>,

@@ -55,8 +55,8 @@ returns-then-leads-first c =
     c.lead-lead.ensures (omega (arith, within, c.if-first-part.false)) c.first_of_lead-first.ensures.below)
     (all_above ts c.args.leads.now start end c.args.sought.now c.lead-lead.result first c.requires.leads
     c.lead-lead.ensures within
-    (never_fall ts c.args.leads.now start end c.requires.leads within c.requires.rise) c.first_of_lead-first.ensures.from
-    c.if-leads-first.true)
+    (never_fall ts c.args.leads.now start end c.requires.leads within c.requires.rise)
+    c.first_of_lead-first.ensures.from c.if-leads-first.true)
 
 pub bounds-leads-first-2 : goal.bounds-leads-first-2
 bounds-leads-first-2 c =
