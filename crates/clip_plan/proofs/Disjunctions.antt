@@ -1,7 +1,6 @@
 -- A query that asks for one of several words holds of each article that has one of its keys.
-use Rattle.std.proofs.Common.{◌≡◌, ℕ, ◌<◌, Bool, true, false, ◌&&◌, ◌||◌, ◌==◌, List, [], ◌∷◌, ◌++◌, map, length}
-use Rattle.std.proofs.Common.{flat_map, fold, get_or, unwrap_or, refl, sym, ap, ap₂, ◌∙◌, append_assoc, append-nil}
-use Rattle.std.specs.Prelude.{slice_get}
+use Rattle.std.proofs.Common.{◌≡◌, ℕ, Bool, true, ◌&&◌, ◌||◌, List, [], ◌∷◌, ◌++◌}
+use Rattle.std.proofs.Common.{flat_map, fold, unwrap_or, refl, sym, ap, ap₂, ◌∙◌, append_assoc, append-nil}
 use Rattle.std.specs.List.{list_all, list_any}
 use Rattle.std.proofs.Math.Bool.{or-true}
 use Rattle.std.proofs.lemmas.Bool.{and_parts, and_from, false≢true}
@@ -18,52 +17,34 @@ use Rattle.clip_extract.specs.Extraction.{extracts, query_keys}
 use Rattle.clip_extract.specs.Keys.{KeyValue, Word, share}
 use Rattle.clip_extract.proofs.Order.{any_in_order}
 use Rattle.clip_terms.specs.Reading.{has_key}
+use Rattle.clip_terms.specs.Terms.{term_at}
 use Rattle.clip_plan.specs.Plan.{Has, Run, Is, Mark, Leaf, Open, Close, clause_marks, group_marks, plan_of, mark_names}
-use Rattle.clip_plan.specs.Plan.{names, decoded}
-use Rattle.clip_plan.specs.Steps.Judging.{meant}
-use Rattle.clip_plan.specs.Steps.Plans.{mark_of, may_be, may_be_there, is_disjunction, outline}
-use Rattle.clip_plan.specs.declared.outline.Outline.{Outline}
-use Rattle.clip_plan.specs.declared.step.Step.{Step}
-use Rattle.clip_plan.specs.declared.step.Step.TheVariants as step
+use Rattle.clip_plan.specs.Plan.{names, named, decoded}
+use Rattle.clip_plan.specs.Steps.Outlines.{may_be, may_be_there}
 use Rattle.clip_plan.proofs.AskedKeys.{has_word_key, or_false}
-use Rattle.clip_plan.proofs.Judging.{alone_must, alone_should, outline_at, plan_of_steps}
+use Rattle.clip_plan.proofs.Judging.{alone_must, alone_should}
 
 -- ---- marks
-
--- a leaf that may hold and asks for a key
-abbrev is_choice : Mark KeyValue → Bool
-is_choice (Leaf occur (Has key)) = may_be occur
-is_choice (Leaf occur (Run keys)) = false
-is_choice (Leaf occur (Is tree)) = false
-is_choice (Open occur inside) = false
-is_choice (Close occur) = false
 
 may : (occur : Occur) → may_be occur ≡ true → occur ≡ Should
 may Must h = absurd (false≢true h)
 may Should h = refl
 may MustNot h = absurd (false≢true h)
 
-module _ (runs : List (List ℕ)) (queries : List Tree) (terms : List KeyValue) where
-  step_chosen : (s : Step) → may_be_there s ≡ true → is_choice (meant runs queries terms s) ≡ true
-  step_chosen (step.Term occur n) h = h
-  step_chosen (step.Pair occur m n) h = absurd (false≢true h)
-  step_chosen (step.Phrase occur place) h = absurd (false≢true h)
-  step_chosen (step.Query occur place) h = absurd (false≢true h)
-  step_chosen (step.Open occur inside) h = absurd (false≢true h)
-  step_chosen (step.Close occur) h = absurd (false≢true h)
+module _ (terms : List KeyValue) where
+  one_chosen : (m : Mark ℕ) → may_be_there m ≡ true → may_be_there (named (term_at terms) m) ≡ true
+  one_chosen (Leaf occur (Has n)) h = h
+  one_chosen (Leaf occur (Run ns)) h = absurd (false≢true h)
+  one_chosen (Leaf occur (Is tree)) h = absurd (false≢true h)
+  one_chosen (Open occur inside) h = absurd (false≢true h)
+  one_chosen (Close occur) h = absurd (false≢true h)
 
-  steps_chosen : (steps : List Step) → list_all may_be_there steps ≡ true
-      → list_all is_choice (map (meant runs queries terms) steps) ≡ true
-  steps_chosen [] h = refl
-  steps_chosen (s ∷ steps) h =
-      let parts = and_parts (may_be_there s) (list_all may_be_there steps) h in
-      and_from (is_choice (meant runs queries terms s)) _ (step_chosen s parts.0) (steps_chosen steps parts.1)
-
--- a step that is there
-pub some_steps : (steps : List Step) (all : Bool) → (length steps == 0) ≡ false → all ≡ list_all may_be_there steps
-    → all ≡ is_disjunction steps
-some_steps [] all some are = absurd (false≢true (sym some))
-some_steps (s ∷ steps) all some are = are
+  marks_chosen : (marks : List (Mark ℕ)) → list_all may_be_there marks ≡ true
+      → list_all may_be_there (decoded terms marks) ≡ true
+  marks_chosen [] h = refl
+  marks_chosen (m ∷ marks) h =
+      let parts = and_parts (may_be_there m) (list_all may_be_there marks) h in
+      and_from (may_be_there (named (term_at terms) m)) _ (one_chosen m parts.0) (marks_chosen marks parts.1)
 
 -- ---- the clauses of a query
 
@@ -82,7 +63,7 @@ module _ (fields : Fields) where
     keys : (extract tree).keys ≡ names (clause_marks occur tree)
     held : list_any (has_key fields) (names (clause_marks occur tree)) ≡ holds tree fields
 
-  chosen : (occur : Occur) (tree : Tree) → list_all is_choice (clause_marks occur tree) ≡ true → IsChoice occur tree
+  chosen : (occur : Occur) (tree : Tree) → list_all may_be_there (clause_marks occur tree) ≡ true → IsChoice occur tree
   unfolding group_extract
   chosen occur (Tree.Term field word) h = record {
     occurs = may occur (and_parts (may_be occur) true h).0;
@@ -118,12 +99,12 @@ module _ (fields : Fields) where
     held : list_any (has_key fields) (names (group_marks clauses)) ≡ list_any meets_should (verdicts clauses fields)
 
   all_parts : (occur : Occur) (child : Tree) (others : Clauses)
-      → list_all is_choice (group_marks (clause occur child others)) ≡ true
-      → (list_all is_choice (clause_marks occur child) ≡ true) × (list_all is_choice (group_marks others) ≡ true)
+      → list_all may_be_there (group_marks (clause occur child others)) ≡ true
+      → (list_all may_be_there (clause_marks occur child) ≡ true) × (list_all may_be_there (group_marks others) ≡ true)
   all_parts occur child others h = and_parts _ _
-      (sym (list_all-append is_choice (clause_marks occur child) (group_marks others)) ∙ h)
+      (sym (list_all-append may_be_there (clause_marks occur child) (group_marks others)) ∙ h)
 
-  all_chosen : (clauses : Clauses) → list_all is_choice (group_marks clauses) ≡ true → AreChoices clauses
+  all_chosen : (clauses : Clauses) → list_all may_be_there (group_marks clauses) ≡ true → AreChoices clauses
   all_chosen none h = record { no_must = refl; keys = refl; must = refl; must_not = refl; held = refl }
   all_chosen (clause Must child others) h =
       let first = chosen Must child (all_parts Must child others h).0 in
@@ -163,7 +144,7 @@ module _ (fields : Fields) where
       ap (λ ms. (unwrap_or (heaviest ms) (fold together e (shoulds cs))).keys) no_must ∙ together_keys e (shoulds cs)
 
   group_by_key : (clauses : Clauses) → (group_marks clauses ≡ [] → ⊥)
-      → list_all is_choice (group_marks clauses) ≡ true
+      → list_all may_be_there (group_marks clauses) ≡ true
       → list_any (has_key fields) (group_extract (extracts clauses)).keys ≡ true
       → group_holds (verdicts clauses fields) ≡ true
   group_by_key none some h had = absurd (some refl)
@@ -179,7 +160,7 @@ module _ (fields : Fields) where
       absurd (false≢true (ap may_be (chosen MustNot child (all_parts MustNot child others h).0).occurs))
 
   -- one of its keys is enough for a query whose plan has such marks
-  by_key : (tree : Tree) → (plan_of tree ≡ [] → ⊥) → list_all is_choice (plan_of tree) ≡ true
+  by_key : (tree : Tree) → (plan_of tree ≡ [] → ⊥) → list_all may_be_there (plan_of tree) ≡ true
       → list_any (has_key fields) (extract tree).keys ≡ true → holds tree fields ≡ true
   unfolding group_extract
   by_key (Tree.Group (clause Must child none)) some h had =
@@ -198,26 +179,12 @@ module _ (fields : Fields) where
 no_step : {A : Type 0} (x : A) (xs : List A) → x ∷ xs ≡ [] → ⊥
 no_step x xs e = cc
 
-module _ (runs : List (List ℕ)) (queries : List Tree) (terms : List KeyValue) where
-  steps_by_key : (fields : Fields) (tree : Tree) (steps : List Step) → is_disjunction steps ≡ true
-      → map (meant runs queries terms) steps ≡ plan_of tree
-      → share (query_keys tree) (article_keys fields) ≡ true → holds tree fields ≡ true
-  steps_by_key fields tree [] h plan shares = absurd (false≢true h)
-  steps_by_key fields tree (s ∷ steps) h plan shares =
-      by_key fields tree
-      (λ none. no_step (meant runs queries terms s) (map (meant runs queries terms) steps) (plan ∙ none))
-      (ap (list_all is_choice) (sym plan) ∙ steps_chosen runs queries terms (s ∷ steps) h)
-      (sym (any_in_order (has_key fields) (extract tree).keys) ∙ shares)
-
-  -- the same of a plan among plans, by the outline that is kept of it
-  pub plan_by_key : (fields : Fields) (tree : Tree) (marks : List (List (Mark ℕ))) (plans : List (List Step))
-      (outlines : List Outline) (place : ℕ) (o : Outline) → map (map (mark_of runs queries)) plans ≡ marks
-      → outlines ≡ map outline plans → place < length outlines → o ≡ get_or outlines place o
-      → o.is_disjunction ≡ true
-      → decoded terms (unwrap_or (slice_get marks place) []) ≡ plan_of tree
-      → share (query_keys tree) (article_keys fields) ≡ true → holds tree fields ≡ true
-  plan_by_key fields tree marks plans outlines place o seen kept inside is asks plan shares =
-      let steps = unwrap_or (slice_get plans place) [] in
-      let same = outline_at plans outlines place o kept inside is in
-      steps_by_key fields tree steps (ap (λ (v : Outline). v.is_disjunction) (sym same) ∙ asks)
-      (plan_of_steps runs queries terms marks plans place steps tree seen refl plan) shares
+-- a plan that has marks, each of which asks for a word that may be there
+pub marks_by_key : (terms : List KeyValue) (fields : Fields) (tree : Tree) (m : Mark ℕ) (marks : List (Mark ℕ))
+    → list_all may_be_there (m ∷ marks) ≡ true → decoded terms (m ∷ marks) ≡ plan_of tree
+    → share (query_keys tree) (article_keys fields) ≡ true → holds tree fields ≡ true
+marks_by_key terms fields tree m marks h plan shares =
+    by_key fields tree
+    (λ none. no_step (named (term_at terms) m) (decoded terms marks) (plan ∙ none))
+    (ap (list_all may_be_there) (sym plan) ∙ marks_chosen terms (m ∷ marks) h)
+    (sym (any_in_order (has_key fields) (extract tree).keys) ∙ shares)

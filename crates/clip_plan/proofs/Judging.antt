@@ -15,18 +15,12 @@ use Rattle.clip_meaning.specs.Meaning.{holds, verdicts, group_holds, meets_must,
 use Rattle.clip_extract.specs.Keys.{KeyValue, Word}
 use Rattle.clip_plan.specs.Plan.{Asks, Has, Run, Is, Mark, Leaf, Open, Close, clause_marks, group_marks, plan_of}
 use Rattle.clip_plan.specs.Plan.{decoded}
-use Rattle.clip_plan.specs.Steps.Plans.{mark_of, first_words, outline}
-use Rattle.clip_plan.specs.declared.first_words.TheConstants.{NO_TERM}
-use Rattle.clip_plan.specs.declared.outline.Outline.{Outline}
+use Rattle.clip_plan.specs.Steps.Plans.{mark_of}
 use Rattle.clip_plan.specs.declared.step.Step.{Step}
-use Rattle.clip_plan.specs.declared.step.Step.TheVariants as step
 use Rattle.clip_plan.specs.Steps.Judging.{no_clauses, counted, counted_all, tally_holds, is_needless, leaf_holds}
 use Rattle.clip_plan.specs.Steps.Judging.{mark_holds, meant, Groups, marked, passed, onward, is_absent, Left, Ends}
 use Rattle.clip_plan.specs.Steps.Judging.{LeadTo}
 use Rattle.clip_plan.specs.declared.judge.Tally.{Tally}
-use Rattle.clip_terms.specs.Terms.{term_at}
-use Rattle.clip_terms.specs.Reading.{has_key, has_run}
-use Rattle.clip_terms.proofs.Runs.{lacks}
 use Rattle.clip_plan.proofs.AskedKeys.{has_word_key, has_word_run}
 
 -- ---- a group's clauses
@@ -571,7 +565,7 @@ begun fields Tree.All = record {
 }
 
 -- a first clause that must hold does not: neither does the query
-first_fails : (fields : Fields) (tree : Tree) (asks : Asks KeyValue) (left : List (Mark KeyValue))
+pub first_fails : (fields : Fields) (tree : Tree) (asks : Asks KeyValue) (left : List (Mark KeyValue))
     → leaf_holds fields asks ≡ false → Leaf Must asks ∷ left ≡ plan_of tree → holds tree fields ≡ false
 first_fails fields tree asks left fails plan =
     let verdict = holds tree fields in
@@ -587,19 +581,34 @@ first_fails fields tree asks left fails plan =
     sym (judged fields verdict [] marks (onward top 1) top far (gone_on fields verdict [] marks 1 top next))
     ∙ ap (λ b. b && true) fails
 
-and_true : (b : Bool) → (b && true) ≡ b
-and_true true = refl
-and_true false = refl
+-- a plan of one clause, which must hold
+pub one_judged : (fields : Fields) (tree : Tree) (asks : Asks KeyValue) → Leaf Must asks ∷ [] ≡ plan_of tree
+    → leaf_holds fields asks ≡ holds tree fields
+one_judged fields tree asks plan =
+    let verdict = holds tree fields in
+    let marks = Leaf Must asks ∷ [] in
+    let start : LeadTo fields verdict marks 0 (no_clauses (length marks)) [] =
+    subst (λ (ms : List (Mark KeyValue)). LeadTo fields verdict ms 0 (no_clauses (length ms)) []) (sym plan)
+    (begun fields tree) in
+    let top = counted (no_clauses 1) Must (leaf_holds fields asks) in
+    let next = leaf_counted fields verdict [] Must asks [] 0 (no_clauses 1) start in
+    sym (only_must 1 (leaf_holds fields asks)) ∙ judged fields verdict [] marks 1 top (omega arith) next
 
--- a pair of which a word is lacking
-pair_fails : (fields : Fields) (first second : KeyValue) → (has_key fields first && has_key fields second) ≡ false
-    → has_run fields (first ∷ second ∷ []) ≡ false
-pair_fails fields first second fails = lacks fields (first ∷ second ∷ [])
-    (ap (λ b. has_key fields first && b) (and_true (has_key fields second)) ∙ fails)
-
-twice : (b : Bool) → (b && b) ≡ false → b ≡ false
-twice true fails = fails
-twice false fails = refl
+-- a plan of two leaves
+pub two_judged : (fields : Fields) (tree : Tree) (o p : Occur) (asks others : Asks KeyValue)
+    → Leaf o asks ∷ Leaf p others ∷ [] ≡ plan_of tree
+    → tally_holds (counted (counted (no_clauses 2) o (leaf_holds fields asks)) p (leaf_holds fields others))
+    ≡ holds tree fields
+two_judged fields tree o p asks others plan =
+    let verdict = holds tree fields in
+    let marks = Leaf o asks ∷ Leaf p others ∷ [] in
+    let start : LeadTo fields verdict marks 0 (no_clauses (length marks)) [] =
+    subst (λ (ms : List (Mark KeyValue)). LeadTo fields verdict ms 0 (no_clauses (length ms)) []) (sym plan)
+    (begun fields tree) in
+    let one = counted (no_clauses 2) o (leaf_holds fields asks) in
+    let next = leaf_counted fields verdict [] o asks (Leaf p others ∷ []) 0 (no_clauses 2) start in
+    let both = counted one p (leaf_holds fields others) in
+    judged fields verdict [] marks 2 both (omega arith) (leaf_counted fields verdict [] p others [] 1 one next)
 
 -- a leaf that may hold and does not leaves all as it is
 absent_marked : (fields : Fields) (i : ℕ) (mark : Mark KeyValue) (top : Tally) (around : List Tally)
@@ -618,20 +627,6 @@ absent_marked fields i (Open occur inside) top around absent = absurd (false≢t
 absent_marked fields i (Close occur) top around absent = absurd (false≢true absent)
 
 -- ---- steps
-
--- the outline that is kept of a plan
-outline_kept : (plans : List (List Step)) (place : ℕ) (o : Outline) → place < length (map outline plans)
-    → get_or (map outline plans) place o ≡ outline (unwrap_or (slice_get plans place) [])
-outline_kept [] place o inside = absurd (omega arith)
-outline_kept (steps ∷ plans) zero o inside = refl
-outline_kept (steps ∷ plans) (suc place) o inside = outline_kept plans place o (omega arith)
-
-pub outline_at : (plans : List (List Step)) (outlines : List Outline) (place : ℕ) (o : Outline)
-    → outlines ≡ map outline plans → place < length outlines → o ≡ get_or outlines place o
-    → o ≡ outline (unwrap_or (slice_get plans place) [])
-outline_at plans outlines place o kept inside is =
-    is ∙ ap (λ os. get_or os place o) kept
-    ∙ outline_kept plans place o (subst (λ (os : List Outline). place < length os) kept inside)
 
 module _ (runs : List (List ℕ)) (queries : List Tree) (terms : List KeyValue) where
   pub decoded_step : (steps : List Step) → decoded terms (map (mark_of runs queries) steps) ≡ map
@@ -666,42 +661,6 @@ module _ (runs : List (List ℕ)) (queries : List Tree) (terms : List KeyValue) 
   judged_at fields marks plans place steps (Err e) seen at h = tt
   judged_at fields marks plans place steps (Ok held) seen at h =
       λ tree plan. h tree (plan_of_steps marks plans place steps tree seen at plan)
-
-  -- a word that the first clause asks for is not there
-  pub ruled_out : (fields : Fields) (tree : Tree) (steps : List Step) → ((first_words steps).first ≡ NO_TERM → ⊥)
-      → (has_key fields (term_at terms (first_words steps).first) && has_key fields
-      (term_at terms (first_words steps).second)) ≡ false
-      → map (meant runs queries terms) steps ≡ plan_of tree → holds tree fields ≡ false
-  ruled_out fields tree [] some fails plan = absurd (some refl)
-  ruled_out fields tree (step.Term Must n ∷ steps) some fails plan =
-      first_fails fields tree (Has (term_at terms n)) (map (meant runs queries terms) steps)
-      (twice (has_key fields (term_at terms n)) fails) plan
-  ruled_out fields tree (step.Term Should n ∷ steps) some fails plan = absurd (some refl)
-  ruled_out fields tree (step.Term MustNot n ∷ steps) some fails plan = absurd (some refl)
-  ruled_out fields tree (step.Pair Must m n ∷ steps) some fails plan =
-      first_fails fields tree (Run (term_at terms m ∷ term_at terms n ∷ [])) (map (meant runs queries terms) steps)
-      (pair_fails fields (term_at terms m) (term_at terms n) fails) plan
-  ruled_out fields tree (step.Pair Should m n ∷ steps) some fails plan = absurd (some refl)
-  ruled_out fields tree (step.Pair MustNot m n ∷ steps) some fails plan = absurd (some refl)
-  ruled_out fields tree (step.Phrase occur place ∷ steps) some fails plan = absurd (some refl)
-  ruled_out fields tree (step.Query occur place ∷ steps) some fails plan = absurd (some refl)
-  ruled_out fields tree (step.Open occur inside ∷ steps) some fails plan = absurd (some refl)
-  ruled_out fields tree (step.Close occur ∷ steps) some fails plan = absurd (some refl)
-
-  -- the same of a plan among plans, by the outline that is kept of it
-  pub ruled_out_at : (fields : Fields) (tree : Tree) (marks : List (List (Mark ℕ))) (plans : List (List Step))
-      (outlines : List Outline) (place : ℕ) (o : Outline) → map (map (mark_of runs queries)) plans ≡ marks
-      → outlines ≡ map outline plans → place < length outlines → o ≡ get_or outlines place o
-      → (o.words.first ≡ NO_TERM → ⊥)
-      → (has_key fields (term_at terms o.words.first) && has_key fields (term_at terms o.words.second)) ≡ false
-      → decoded terms (unwrap_or (slice_get marks place) []) ≡ plan_of tree → holds tree fields ≡ false
-  ruled_out_at fields tree marks plans outlines place o seen kept inside is some fails plan =
-      let steps = unwrap_or (slice_get plans place) [] in
-      let same = outline_at plans outlines place o kept inside is in
-      ruled_out fields tree steps (λ none. some (ap (λ (v : Outline). v.words.first) same ∙ none))
-      (ap (λ (v : Outline). has_key fields (term_at terms v.words.first) && has_key fields
-      (term_at terms v.words.second)) (sym same) ∙ fails)
-      (plan_of_steps marks plans place steps tree seen refl plan)
 
   -- ---- one step of those that are left
 

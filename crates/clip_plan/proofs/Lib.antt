@@ -8,6 +8,7 @@ pub mod Leaves
 pub mod Names
 pub mod Named
 pub mod Numbering
+pub mod Outlines
 pub mod Renumbering
 pub mod Sent
 pub mod Standing

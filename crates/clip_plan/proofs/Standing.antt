@@ -231,7 +231,7 @@ steps_stand {terms} {runs} {new_runs} {queries} {new_queries} {steps} {new_steps
     subst (λ (l : List Step). StandFor terms new_runs new_queries l marks)
     (sym (f.behind ∙ ap (λ l. l ++ f.added) e)) f.stand
 
-abbrev AllPlaced : List (List ℕ) → List Query → List (List Step) → Type 0
+abbrev pub AllPlaced : List (List ℕ) → List Query → List (List Step) → Type 0
 AllPlaced runs queries plans = All (All (HasPlace (length runs) (length queries))) plans
 
 all_placed : {runs new_runs : List (List ℕ)} {queries new_queries : List Query} (plans : List (List Step))
@@ -252,11 +252,19 @@ places_pushed {new_runs = new_runs} {new_queries = new_queries} plans new list n
     subst (All P) (sym e) (All-push P plans list (all_placed plans added.runs_grow added.queries_grow h)
     (subst P (sym same) (steps_stand none added).places))
 
+-- no plan was pushed, and runs and queries have grown
+pub places_left : {runs new_runs : List (List ℕ)} {queries new_queries : List Query} (plans new : List (List Step))
+    → Grows runs new_runs → Grows queries new_queries → AllPlaced runs queries plans → new ≡ plans
+    → AllPlaced new_runs new_queries new
+places_left {new_runs = new_runs} {new_queries = new_queries} plans new g a h same =
+    subst (λ (ps : List (List Step)). AllPlaced new_runs new_queries ps) (sym same) (all_placed plans g a h)
+
 -- plans as contracts see them
 abbrev pub marked : List (List ℕ) → List Query → List (List Step) → List (List (Mark ℕ))
 marked runs queries plans = map (map (mark_of runs (map tree_of queries))) plans
 
-plans_kept : {runs new_runs : List (List ℕ)} {queries new_queries : List Query} (plans : List (List Step))
+-- plans mean the same where their runs and queries grow
+pub plans_kept : {runs new_runs : List (List ℕ)} {queries new_queries : List Query} (plans : List (List Step))
     → Grows runs new_runs → Grows queries new_queries → AllPlaced runs queries plans
     → marked new_runs new_queries plans ≡ marked runs queries plans
 plans_kept [] g a h = refl

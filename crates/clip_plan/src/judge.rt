@@ -12,9 +12,8 @@
 //!
 //! In one without a the outermost group can't hold after step 0, and the rest is passed.
 ghost use Rattle.std.specs.Prelude.{◌≡◌, ℕ, ◌+◌, ◌<◌, ◌≤◌, Bool, true, false, List, [], IfOk, OnOk, map, length};
-ghost use Rattle.std.specs.Prelude.{unwrap_or, reverse, slice_get};
+ghost use Rattle.std.specs.Prelude.{unwrap_or, reverse, slice_get, IfSome};
 ghost use Rattle.clip_grammar.specs.Tree.{Tree, tree_of};
-ghost use Rattle.clip_meaning.specs.Article.{Fields};
 ghost use Rattle.clip_meaning.specs.Meaning.{holds};
 ghost use Rattle.clip_extract.specs.Covering.{article_keys};
 ghost use Rattle.clip_extract.specs.Extraction.{query_keys};
@@ -24,7 +23,6 @@ ghost use Rattle.clip_plan.specs.Steps.Judging.{no_clauses, counted, tally_holds
 ghost use Rattle.clip_plan.specs.Steps.Judging.{marked, passed, onward, is_absent, LeadTo};
 ghost use Rattle.clip_plan.specs.declared.judge.Tally.{Tally};
 
-use crate::first_words::NO_TERM;
 use crate::plans::Plans;
 use crate::step::Step;
 use clip_grammar::query::{Occur, Query};
@@ -322,31 +320,31 @@ impl<'a> Judging<'a> {
 
 impl Plans {
     /// Whether the query of the plan at a place may hold of the article that is read, where the plan's numbers are
-    /// those of the reading's terms. `false` rules it out: its first clause must hold, and the article lacks a word of
-    /// it. `true` says nothing. Takes no memory. Constant time: it is for queries of which few hold, before `judge`.
+    /// those of the reading's terms. `false` rules it out: the article lacks words without which it can't hold, by its
+    /// first clauses. `true` says nothing. Takes no memory. Constant time: it is for queries of which few hold, before
+    /// `judge`.
     pub fn may_hold(&self, place: usize, reading: &Reading) -> bool
         ensures { (tree : Tree) → decoded reading.now.terms (unwrap_or (slice_get self.now place) []) ≡ plan_of tree
             → result ≡ false → holds tree reading.now.article.fields ≡ false }
     {
         match self.outlines.get(place) {
-            Some(outline) => {
-                let words = outline.words;
-                words.first == NO_TERM || (reading.has(words.first) && reading.has(words.second))
-            }
+            Some(outline) => outline.may_hold(reading),
             None => true,
         }
     }
 
-    /// Whether the query of the plan at a place holds of each article that has one of its keys: it asks for one of
-    /// several words, which are its keys. Takes no memory. Constant time.
-    fn holds_by_a_key(&self, place: usize) -> bool
-        ensures { (terms : List KeyValue) (tree : Tree) (fields : Fields)
-            → decoded terms (unwrap_or (slice_get self.now place) []) ≡ plan_of tree → result ≡ true
-            → share (query_keys tree) (article_keys fields) ≡ true → holds tree fields ≡ true }
+    /// Whether the query of the plan at a place holds of the article that is read, if that is known before its steps
+    /// are read; `shares_key` says that the article is known to have one of the query's keys. Takes no memory. Cost: for
+    /// a pair of words that of `Reading::has_run`, and else constant time.
+    fn settled(&self, place: usize, reading: &Reading, shares_key: bool) -> Option<bool>
+        ensures { IfSome result (λ held. (tree : Tree)
+            → decoded reading.now.terms (unwrap_or (slice_get self.now place) []) ≡ plan_of tree
+            → (shares_key ≡ true → share (query_keys tree) (article_keys reading.now.article.fields) ≡ true)
+            → held ≡ holds tree reading.now.article.fields) }
     {
         match self.outlines.get(place) {
-            Some(outline) => outline.is_disjunction,
-            None => false,
+            Some(outline) => outline.settled(reading, shares_key),
+            None => None,
         }
     }
 
@@ -357,8 +355,9 @@ impl Plans {
     /// `NoMemory` where the room had to grow and an allocation failed, or where its count is at its end. Cost: a step
     /// for each leaf and group that it comes to, and for a phrase what `Reading::has_run` takes. What is left of a
     /// group is passed in one step once a clause keeps it from holding, and a clause that may hold is passed in one,
-    /// and not asked, once its group has a clause that must hold or one that does. Constant time for a query that asks
-    /// for one of several words, where the article is known to have one of its keys.
+    /// and not asked, once its group has a clause that must hold or one that does. No step is read of a
+    /// query that its outline settles: a word, two that must be there, a pair of words next to each other, alone or
+    /// beside a word, and one of several words, where the article is known to have one of its keys.
     pub fn judge(
         &self,
         place: usize,
@@ -373,8 +372,8 @@ impl Plans {
         ensures counted { OnOk result (tallies.new ≡ tallies.old + 1) }
     {
         tallies.count_one()?;
-        if shares_key && self.holds_by_a_key(place) {
-            return Ok(true);
+        if let Some(held) = self.settled(place, reading, shares_key) {
+            return Ok(held);
         }
         let judging = Judging {
             steps: self.steps.get(place),

@@ -4,7 +4,6 @@
 ghost use Rattle.std.specs.Prelude.{◌≡◌};
 
 mod copy;
-mod first_words;
 mod hits;
 mod judge;
 mod naming;

@@ -14,7 +14,8 @@ ghost use Rattle.clip_grammar.specs.declared.query.Query.{Query};
 ghost use Rattle.clip_extract.specs.Keys.{KeyValue, Word};
 ghost use Rattle.clip_terms.specs.Terms.{term_at};
 ghost use Rattle.clip_plan.specs.Plan.{Mark, Leaf, Is, Run, decoded, plan_of, clause_marks, are_terms, word_keys};
-ghost use Rattle.clip_plan.specs.Steps.Plans.{outline, Grows, Adds, IsNoGroup};
+ghost use Rattle.clip_plan.specs.Steps.Outlines.{outline};
+ghost use Rattle.clip_plan.specs.Steps.Plans.{mark_of, Grows, Adds, IsNoGroup};
 ghost use Rattle.clip_plan.specs.declared.step.Step.TheVariants as step;
 
 use crate::copy::copy_query;
@@ -280,19 +281,22 @@ fn add_plan(
     }
 }
 
-/// Adds the steps of a plan behind those of other plans, and what is known of it before these are read; `NoMemory`
-/// where an allocation failed, with both as they were.
+/// Adds the steps of a plan behind those of other plans, and what is known of it before these are read, where `runs` has
+/// the runs that they name; `NoMemory` where an allocation failed, with both as they were.
 pub(crate) fn push_steps(
+    runs: &PackedLists<u32>,
     steps: &[Step],
     plans: &mut PackedLists<Step>,
     outlines: &mut Vec<Outline>,
 ) -> Result<(), NoMemory>
     ensures ok { OnOk result (plans.new ≡ plans.old ++ steps.now ∷ []) }
     ensures err { OnErr result (plans.new ≡ plans.old) }
-    ensures outlines { outlines.old.items ≡ map outline plans.old → outlines.new.items ≡ map outline plans.new }
+    ensures outlines { (queries : List Tree)
+        → outlines.old.items ≡ map outline (map (map (mark_of runs.now queries)) plans.old)
+        → outlines.new.items ≡ map outline (map (map (mark_of runs.now queries)) plans.new) }
 {
     let count = outlines.len();
-    outlines.push(Outline::of_plan(steps))?;
+    outlines.push(Outline::of_plan(runs, steps))?;
     match plans.push(steps) {
         Ok(()) => Ok(()),
         Err(_) => {
@@ -300,6 +304,15 @@ pub(crate) fn push_steps(
             Err(NoMemory)
         }
     }
+}
+
+/// Takes all plans out, and what is known of them: of some of their runs nothing is known.
+pub(crate) fn forget(alloc: Global, plans: &mut PackedLists<Step>, outlines: &mut Vec<Outline>)
+    ensures plans { plans.new ≡ [] }
+    ensures outlines { outlines.new.items ≡ [] }
+{
+    *plans = PackedLists::new(alloc);
+    outlines.clear();
 }
 
 impl Plans {
@@ -334,14 +347,22 @@ impl Plans {
     {
         let mut steps = Vec::new(alloc);
         let planner = Planner { alloc, terms };
-        add_plan(
+        let added = add_plan(
             &planner,
             query,
             &mut self.runs,
             &mut self.queries,
             &mut steps,
-        )?;
-        push_steps(&steps, &mut self.steps, &mut self.outlines)?;
-        Ok(())
+        );
+        match added {
+            Ok(()) => {
+                push_steps(&self.runs, &steps, &mut self.steps, &mut self.outlines)?;
+                Ok(())
+            }
+            Err(_) => {
+                forget(alloc, &mut self.steps, &mut self.outlines);
+                Err(NoMemory)
+            }
+        }
     }
 }

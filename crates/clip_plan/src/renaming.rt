@@ -6,7 +6,7 @@ ghost use Rattle.clip_plan.specs.Plan.{decoded, mark_names, names, renumbered, r
 ghost use Rattle.clip_plan.specs.Steps.Plans.{Adds, mark_of};
 
 use crate::copy::copy_query;
-use crate::plans::{Plans, add_query, kept_place, push_steps};
+use crate::plans::{Plans, add_query, forget, kept_place, push_steps};
 use crate::step::Step;
 use clip_grammar::query::Query;
 use clip_pieces::PackedLists;
@@ -198,8 +198,16 @@ impl Plans {
         };
         let mut steps = Vec::new(alloc);
         let from = other.steps.get(place);
-        source.add_steps(alloc, from, &mut self.runs, &mut self.queries, &mut steps)?;
-        push_steps(&steps, &mut self.steps, &mut self.outlines)?;
-        Ok(())
+        let added = source.add_steps(alloc, from, &mut self.runs, &mut self.queries, &mut steps);
+        match added {
+            Ok(()) => {
+                push_steps(&self.runs, &steps, &mut self.steps, &mut self.outlines)?;
+                Ok(())
+            }
+            Err(_) => {
+                forget(alloc, &mut self.steps, &mut self.outlines);
+                Err(NoMemory)
+            }
+        }
     }
 }

@@ -166,7 +166,7 @@ impl<'a> SegmentReading<'a> {
         self.segment.index().has_listener(position)
     }
 
-    /// Whether the query of the entry at a position may hold of the article: `false` rules it out, by its first clause,
+    /// Whether the query of the entry at a position may hold of the article: `false` rules it out, by its first clauses,
     /// and `true` says nothing. Takes no memory. Constant time; the entry is not looked at.
     pub fn may_hold(&self, position: u32) -> bool
         ensures { (entry : Registered) → slice_get self.now.entries position ≡ Some entry

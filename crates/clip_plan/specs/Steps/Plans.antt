@@ -1,18 +1,15 @@
 -- Plans as contracts see them, and what holds of each.
-use Rattle.std.specs.Prelude.{◌≡◌, ℕ, ◌<◌, Bool, true, false, List, [], ◌∷◌, ◌++◌, map, length, unwrap_or, slice_get}
-use Rattle.std.specs.List.{All, list_all}
+use Rattle.std.specs.Prelude.{◌≡◌, ℕ, ◌<◌, Bool, false, List, [], ◌∷◌, ◌++◌, map, length, unwrap_or, slice_get}
+use Rattle.std.specs.List.{All}
 use Rattle.std.specs.declared.vec.Vec.{Vec}
 use Rattle.std.specs.declared.alloc.Global.{Global}
 use Rattle.clip_grammar.specs.Tree.{Tree, tree_of}
 use Rattle.clip_grammar.specs.declared.query.Occur.{Occur}
-use Rattle.clip_grammar.specs.declared.query.Occur.TheVariants.{Must, Should, MustNot}
 use Rattle.clip_grammar.specs.declared.query.Query.{Query}
 use Rattle.clip_grammar.specs.declared.query.Query.TheVariants.{Group}
 use Rattle.clip_extract.specs.Keys.{KeyValue}
 use Rattle.clip_plan.specs.Plan.{Has, Run, Is, Mark, Leaf, Open, Close, decoded}
-use Rattle.clip_plan.specs.declared.first_words.FirstWords.{FirstWords}
-use Rattle.clip_plan.specs.declared.first_words.TheConstants.{NO_TERM}
-use Rattle.clip_plan.specs.declared.outline.Outline.{Outline}
+use Rattle.clip_plan.specs.Steps.Outlines.{may_be, outline}
 use Rattle.clip_plan.specs.declared.step.Step.{Step}
 use Rattle.clip_plan.specs.declared.step.Step.TheVariants as step
 use Rattle.clip_plan.specs.declared.plans.Plans.TheInside.{Inside}
@@ -29,6 +26,15 @@ mark_of runs queries (step.Close occur) = Close occur
 abbrev pub marks_of : Inside → List (List (Mark ℕ))
 marks_of plans = map (map (mark_of plans.runs (map tree_of plans.queries.items))) plans.steps
 
+-- the step asks for a word that may be there
+abbrev pub step_may_be_there : Step → Bool
+step_may_be_there (step.Term occur n) = may_be occur
+step_may_be_there (step.Pair occur m n) = false
+step_may_be_there (step.Phrase occur place) = false
+step_may_be_there (step.Query occur place) = false
+step_may_be_there (step.Open occur inside) = false
+step_may_be_there (step.Close occur) = false
+
 -- a step's run or query is there, of this many
 abbrev pub HasPlace : (runs queries : ℕ) → Step → Type 0
 HasPlace runs queries (step.Term occur n) = Unit {0}
@@ -42,60 +48,11 @@ HasPlace runs queries (step.Close occur) = Unit {0}
 abbrev pub HavePlaces : Inside → Type 0
 HavePlaces plans = All (All (HasPlace (length plans.runs) (length plans.queries.items))) plans.steps
 
--- ---- what a first clause asks for
-
-abbrev pub no_words : FirstWords
-no_words = record { first = NO_TERM; second = NO_TERM }
-
--- of a clause, its own if it must hold
-abbrev pub clause_words : Occur → (first second : ℕ) → FirstWords
-clause_words Must first second = record { first = first; second = second }
-clause_words Should first second = no_words
-clause_words MustNot first second = no_words
-
-abbrev pub step_words : Step → FirstWords
-step_words (step.Term occur n) = clause_words occur n n
-step_words (step.Pair occur m n) = clause_words occur m n
-step_words (step.Phrase occur place) = no_words
-step_words (step.Query occur place) = no_words
-step_words (step.Open occur inside) = no_words
-step_words (step.Close occur) = no_words
-
--- of a plan, those of its first step
-abbrev pub first_words : List Step → FirstWords
-first_words [] = no_words
-first_words (s ∷ steps) = step_words s
-
--- ---- words that may be there
-
-abbrev pub may_be : Occur → Bool
-may_be Must = false
-may_be Should = true
-may_be MustNot = false
-
--- the step asks for a word that may be there
-abbrev pub may_be_there : Step → Bool
-may_be_there (step.Term occur n) = may_be occur
-may_be_there (step.Pair occur m n) = false
-may_be_there (step.Phrase occur place) = false
-may_be_there (step.Query occur place) = false
-may_be_there (step.Open occur inside) = false
-may_be_there (step.Close occur) = false
-
--- there are steps, and each asks for a word that may be there
-abbrev pub is_disjunction : List Step → Bool
-is_disjunction [] = false
-is_disjunction (s ∷ steps) = list_all may_be_there (s ∷ steps)
-
 -- ---- plans
-
--- what is known of a plan before its steps are read
-abbrev pub outline : List Step → Outline
-outline steps = record { words = first_words steps; is_disjunction = is_disjunction steps }
 
 -- each step has its run or query, and of each plan its outline is kept
 abbrev pub AreWhole : Inside → Type 0
-AreWhole plans = HavePlaces plans × (plans.outlines.items ≡ map outline plans.steps)
+AreWhole plans = HavePlaces plans × (plans.outlines.items ≡ map outline (marks_of plans))
 
 -- ---- adding
 

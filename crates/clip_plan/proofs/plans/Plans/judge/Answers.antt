@@ -1,4 +1,4 @@
-use Rattle.std.proofs.Common.{◌≡◌, List, map, rules, subst, sym}
+use Rattle.std.proofs.Common.{◌≡◌, List, map, rules, subst}
 use Rattle.std.specs.Prelude.{IfOk}
 use Rattle.std.proofs.lemmas.Result.{IfOk-weaker}
 use Rattle.clip_grammar.specs.Tree.{Tree, tree_of}
@@ -21,8 +21,3 @@ returns-clause-held c =
 
 pub returns-clause-counted : goal.returns-clause-counted
 returns-clause-counted c = search rules
-
-pub returns-then-holds_by_a_key-clause-held : goal.returns-then-holds_by_a_key-clause-held
-returns-then-holds_by_a_key-clause-held c = λ tree plan shares.
-    sym (c.holds_by_a_key.ensures c.args.reading.now.terms tree c.args.reading.now.article.fields plan
-    c.if-holds_by_a_key.true (shares c.if-shares_key.true))

@@ -1,28 +1,15 @@
-use Rattle.std.proofs.Common.{◌&&◌, map, sym, ap, ◌∙◌}
-use Rattle.clip_grammar.specs.Tree.{tree_of}
-use Rattle.clip_terms.specs.Reading.{has_key}
-use Rattle.clip_terms.specs.Terms.{term_at}
-use Rattle.clip_plan.proofs.Judging.{ruled_out_at}
+use Rattle.std.proofs.Common.{sym, ap, ◌∙◌, map}
+use Rattle.clip_plan.specs.Steps.Outlines.{outline}
+use Rattle.clip_plan.proofs.Outlines.{ruled_out_at}
 use Rattle.clip_plan.proofs.plans.Plans.may_hold.Goals as goal
 
-pub returns-then-has : goal.returns-then-has
-returns-then-has c = λ tree plan fails.
-    let reading = c.args.reading.now in
-    let outline = c.in-Some.outline.now in
-    ruled_out_at c.self.inside.runs (map tree_of c.self.inside.queries.items) reading.terms reading.article.fields tree
-    c.args.self.now c.self.inside.steps c.deref.result.now c.args.place outline
-    c.self.view_is (c.deref.ensures.value ∙ c.self.invariant.1) c.in-Some.ensures.lookup.3.0 c.in-Some.ensures.lookup.1
-    c.if-words.false
-    (ap (λ b. b && has_key reading.article.fields (term_at reading.terms outline.words.second)) (sym c.has.ensures
-    ∙ c.if-has.true) ∙ sym c.has-then-has.ensures ∙ fails) plan
-
-pub returns-else-has : goal.returns-else-has
-returns-else-has c = λ tree plan fails.
-    let reading = c.args.reading.now in
-    let outline = c.in-Some.outline.now in
-    ruled_out_at c.self.inside.runs (map tree_of c.self.inside.queries.items) reading.terms reading.article.fields tree
-    c.args.self.now c.self.inside.steps c.deref.result.now c.args.place outline
-    c.self.view_is (c.deref.ensures.value ∙ c.self.invariant.1) c.in-Some.ensures.lookup.3.0 c.in-Some.ensures.lookup.1
-    c.if-words.false
-    (ap (λ b. b && has_key reading.article.fields (term_at reading.terms outline.words.second))
-    (sym c.has.ensures ∙ fails)) plan
+pub returns-in-Some : goal.returns-in-Some
+returns-in-Some c = λ tree plan fails.
+    ruled_out_at c.args.reading.now.terms c.args.reading.now.article.fields c.args.self.now c.deref.result.now
+    c.args.place c.in-Some.outline.now tree
+    (record {
+      kept = c.deref.ensures.value ∙ c.self.invariant.1 ∙ ap (map outline) c.self.view_is;
+      inside = c.in-Some.ensures.lookup.3.0;
+      is = c.in-Some.ensures.lookup.1;
+    })
+    plan (sym c.may_hold.ensures ∙ fails)
