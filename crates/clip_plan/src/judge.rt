@@ -334,8 +334,8 @@ impl Plans {
     }
 
     /// Whether the query of the plan at a place holds of the article that is read, if that is known before its steps
-    /// are read; `shares_key` says that the article is known to have one of the query's keys. Takes no memory. Cost: for
-    /// a pair of words that of `Reading::has_run`, and else constant time.
+    /// are read; `shares_key` says that the article is known to have one of the query's keys. Takes no memory. Cost:
+    /// for a pair of words that of `Reading::has_run`, and else constant time.
     fn settled(&self, place: usize, reading: &Reading, shares_key: bool) -> Option<bool>
         ensures { IfSome result (λ held. (tree : Tree)
             → decoded reading.now.terms (unwrap_or (slice_get self.now place) []) ≡ plan_of tree
@@ -355,9 +355,9 @@ impl Plans {
     /// `NoMemory` where the room had to grow and an allocation failed, or where its count is at its end. Cost: a step
     /// for each leaf and group that it comes to, and for a phrase what `Reading::has_run` takes. What is left of a
     /// group is passed in one step once a clause keeps it from holding, and a clause that may hold is passed in one,
-    /// and not asked, once its group has a clause that must hold or one that does. No step is read of a
-    /// query that its outline settles: a word, two that must be there, a pair of words next to each other, alone or
-    /// beside a word, and one of several words, where the article is known to have one of its keys.
+    /// and not asked, once its group has a clause that must hold or one that does. No step is read of these
+    /// queries: a word, two that must be there, a pair of words next to each other, alone or beside a word that may be
+    /// there, and one of several words, where the article is known to have one of the query's keys.
     pub fn judge(
         &self,
         place: usize,

@@ -281,8 +281,8 @@ fn add_plan(
     }
 }
 
-/// Adds the steps of a plan behind those of other plans, and what is known of it before these are read, where `runs` has
-/// the runs that they name; `NoMemory` where an allocation failed, with both as they were.
+/// Adds the steps of a plan behind those of other plans, and what is known of it before these are read, where `runs`
+/// has the runs that they name; `NoMemory` where an allocation failed, with both as they were.
 pub(crate) fn push_steps(
     runs: &PackedLists<u32>,
     steps: &[Step],
