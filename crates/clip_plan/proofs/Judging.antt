@@ -13,10 +13,13 @@ use Rattle.clip_grammar.specs.declared.query.Occur.TheVariants.{Must, Should, Mu
 use Rattle.clip_meaning.specs.Article.{Fields}
 use Rattle.clip_meaning.specs.Meaning.{holds, verdicts, group_holds, meets_must, meets_must_not, meets_should, is_must}
 use Rattle.clip_extract.specs.Keys.{KeyValue, Word}
+use Rattle.clip_terms.specs.Reading.{has_key}
+use Rattle.clip_terms.specs.Terms.{term_at}
 use Rattle.clip_plan.specs.Plan.{Asks, Has, Run, Is, Mark, Leaf, Open, Close, clause_marks, group_marks, plan_of}
 use Rattle.clip_plan.specs.Plan.{decoded}
 use Rattle.clip_plan.specs.Steps.Plans.{mark_of}
 use Rattle.clip_plan.specs.declared.step.Step.{Step}
+use Rattle.clip_plan.specs.declared.step.Step.TheVariants as step
 use Rattle.clip_plan.specs.Steps.Judging.{no_clauses, counted, counted_all, tally_holds, is_needless, leaf_holds}
 use Rattle.clip_plan.specs.Steps.Judging.{mark_holds, meant, Groups, marked, passed, onward, is_absent, Left, Ends}
 use Rattle.clip_plan.specs.Steps.Judging.{LeadTo}
@@ -564,22 +567,41 @@ begun fields Tree.All = record {
       (refl, refl, refl);
 }
 
--- a first clause that must hold does not: neither does the query
-pub first_fails : (fields : Fields) (tree : Tree) (asks : Asks KeyValue) (left : List (Mark KeyValue))
-    → leaf_holds fields asks ≡ false → Leaf Must asks ∷ left ≡ plan_of tree → holds tree fields ≡ false
-first_fails fields tree asks left fails plan =
+pub not_false : (b : Bool) → not b ≡ false → b ≡ true
+not_false true e = refl
+not_false false e = absurd (false≢true (sym e))
+
+-- after a first clause no group of these clauses holds: neither does the query
+dead_at_first : (fields : Fields) (tree : Tree) (occur : Occur) (asks : Asks KeyValue) (left : List (Mark KeyValue))
+    (met : Bool) → counted (no_clauses (suc (length left))) occur (leaf_holds fields asks)
+    ≡ record { may_hold = false; is_met = met; end = suc (length left) }
+    → Leaf occur asks ∷ left ≡ plan_of tree → holds tree fields ≡ false
+dead_at_first fields tree occur asks left met dead plan =
     let verdict = holds tree fields in
-    let marks = Leaf Must asks ∷ left in
+    let marks = Leaf occur asks ∷ left in
     let start : LeadTo fields verdict marks 0 (no_clauses (length marks)) [] =
     subst (λ (ms : List (Mark KeyValue)). LeadTo fields verdict ms 0 (no_clauses (length ms)) []) (sym plan)
     (begun fields tree) in
-    let top = counted (no_clauses (length marks)) Must (leaf_holds fields asks) in
-    let next : LeadTo fields verdict marks 1 top [] = leaf_counted fields verdict [] Must asks left 0
-    (no_clauses (length marks)) start in
-    let far : length marks ≤ onward top 1 = subst (λ b. length marks ≤ cond b 1 (max 1 (length marks))) (sym fails)
-    (omega arith) in
-    sym (judged fields verdict [] marks (onward top 1) top far (gone_on fields verdict [] marks 1 top next))
-    ∙ ap (λ b. b && true) fails
+    let top : Tally = record { may_hold = false; is_met = met; end = suc (length left) } in
+    let next : LeadTo fields verdict marks 1 top [] =
+    subst (λ (t : Tally). LeadTo fields verdict marks 1 t []) dead
+    (leaf_counted fields verdict [] occur asks left 0 (no_clauses (length marks)) start) in
+    sym (judged fields verdict [] marks (onward top 1) top (omega arith)
+    (gone_on fields verdict [] marks 1 top next))
+
+-- a first clause that must hold does not
+pub first_fails : (fields : Fields) (tree : Tree) (asks : Asks KeyValue) (left : List (Mark KeyValue))
+    → leaf_holds fields asks ≡ false → Leaf Must asks ∷ left ≡ plan_of tree → holds tree fields ≡ false
+first_fails fields tree asks left fails plan =
+    dead_at_first fields tree Must asks left true
+    (ap (λ b. record { may_hold = b; is_met = true; end = suc (length left) }) fails) plan
+
+-- a first clause that must not hold does
+pub first_excludes : (fields : Fields) (tree : Tree) (asks : Asks KeyValue) (left : List (Mark KeyValue))
+    → leaf_holds fields asks ≡ true → Leaf MustNot asks ∷ left ≡ plan_of tree → holds tree fields ≡ false
+first_excludes fields tree asks left held plan =
+    dead_at_first fields tree MustNot asks left false
+    (ap (λ b. record { may_hold = not b; is_met = false; end = suc (length left) }) held) plan
 
 -- a plan of one clause, which must hold
 pub one_judged : (fields : Fields) (tree : Tree) (asks : Asks KeyValue) → Leaf Must asks ∷ [] ≡ plan_of tree
@@ -661,6 +683,17 @@ module _ (runs : List (List ℕ)) (queries : List Tree) (terms : List KeyValue) 
   judged_at fields marks plans place steps (Err e) seen at h = tt
   judged_at fields marks plans place steps (Ok held) seen at h =
       λ tree plan. h tree (plan_of_steps marks plans place steps tree seen at plan)
+
+  -- the first step asks that a word is not there, and it is
+  pub step_excludes : (fields : Fields) (tree : Tree) (steps : List Step) (s : Step) (o : Occur) (n : ℕ)
+      → 0 < length steps → s ≡ get_or steps 0 s → s ≡ step.Term o n → o ≡ MustNot
+      → has_key fields (term_at terms n) ≡ true → map (meant runs queries terms) steps ≡ plan_of tree
+      → holds tree fields ≡ false
+  step_excludes fields tree [] s o n some at is not_there had plan = absurd (omega arith)
+  step_excludes fields tree (t ∷ steps) s o n some at is not_there had plan =
+      let same : t ≡ step.Term MustNot n = sym at ∙ is ∙ ap (λ p. step.Term p n) not_there in
+      first_excludes fields tree (Has (term_at terms n)) (map (meant runs queries terms) steps) had
+      (ap (λ u. meant runs queries terms u ∷ map (meant runs queries terms) steps) (sym same) ∙ plan)
 
   -- ---- one step of those that are left
 

@@ -318,19 +318,35 @@ impl<'a> Judging<'a> {
     }
 }
 
+/// Whether a plan's first step asks that the article lacks a word, and it has it: the plan's query does not hold.
+fn first_excludes(steps: &[Step], reading: &Reading) -> bool
+    ensures { (runs : List (List ℕ)) (queries : List Tree) (tree : Tree) → result ≡ true
+        → map (meant runs queries reading.now.terms) steps.now ≡ plan_of tree
+        → holds tree reading.now.article.fields ≡ false }
+{
+    match steps.first() {
+        Some(Step::Term(Occur::MustNot, number)) => reading.has(*number),
+        _ => false,
+    }
+}
+
 impl Plans {
     /// Whether the query of the plan at a place may hold of the article that is read, where the plan's numbers are
-    /// those of the reading's terms. `false` rules it out: the article lacks words without which it can't hold, by its
-    /// first clauses. `true` says nothing. Takes no memory. Constant time: it is for queries of which few hold, before
-    /// `judge`.
+    /// those of the reading's terms. `false` rules it out: the article lacks words without which it can't hold, or has
+    /// one with which it can't, by its first clauses. `true` says nothing. Takes no memory. Constant time: it is for
+    /// queries of which few hold, before `judge`. The first step of a plan is read that `judge` may go over, though it
+    /// rules out little: little is done for each plan here, so that many wait for memory side by side.
     pub fn may_hold(&self, place: usize, reading: &Reading) -> bool
         ensures { (tree : Tree) → decoded reading.now.terms (unwrap_or (slice_get self.now place) []) ≡ plan_of tree
             → result ≡ false → holds tree reading.now.article.fields ≡ false }
     {
-        match self.outlines.get(place) {
-            Some(outline) => outline.may_hold(reading),
-            None => true,
+        let Some(outline) = self.outlines.get(place) else {
+            return true;
+        };
+        if !outline.may_hold(reading) {
+            return false;
         }
+        outline.may_settle() || !first_excludes(self.steps.get(place), reading)
     }
 
     /// Whether the query of the plan at a place holds of the article that is read, if that is known before its steps

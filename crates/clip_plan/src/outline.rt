@@ -16,7 +16,7 @@ ghost use Rattle.clip_terms.specs.Reading.{has_key, has_run};
 ghost use Rattle.clip_terms.specs.Terms.{term_at};
 ghost use Rattle.clip_plan.specs.Steps.Plans.{mark_of, step_may_be_there};
 ghost use Rattle.clip_plan.specs.Steps.Outlines.{run_needs, run_alone, word_or_run, of_first, of_one};
-ghost use Rattle.clip_plan.specs.Steps.Outlines.{of_two, of_marks, outline, may_hold_by, settled_by};
+ghost use Rattle.clip_plan.specs.Steps.Outlines.{of_two, of_marks, outline, may_hold_by, settled_by, may_settle};
 
 use crate::step::Step;
 use clip_grammar::query::Occur;
@@ -162,6 +162,17 @@ impl Outline {
             return Outline::AnyKey;
         }
         of_steps(runs, steps)
+    }
+
+    /// Whether it may settle its query, so that no step is read.
+    pub(crate) fn may_settle(self) -> bool
+        ensures { result ≡ may_settle self }
+    {
+        match self {
+            Outline::Unknown | Outline::Needs(_, _, _) | Outline::NeedsEither(_, _, _) => false,
+            Outline::AnyKey | Outline::Words(_, _, _) => true,
+            Outline::Pair(_, _) | Outline::WordOrPair(_, _, _) => true,
+        }
     }
 
     /// Whether its query may hold of the article that is read.

@@ -107,3 +107,13 @@ settled_by has stand shares (Pair a b) = Some (stand a b)
 settled_by has stand shares (WordOrPair word a b) = Some (has word || stand a b)
 settled_by has stand shares (Needs a b c) = None
 settled_by has stand shares (NeedsEither word a b) = None
+
+-- no step is read
+abbrev pub may_settle : Outline → Bool
+may_settle Unknown = false
+may_settle AnyKey = true
+may_settle (Words a b c) = true
+may_settle (Pair a b) = true
+may_settle (WordOrPair word a b) = true
+may_settle (Needs a b c) = false
+may_settle (NeedsEither word a b) = false
