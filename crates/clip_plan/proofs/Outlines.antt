@@ -22,7 +22,7 @@ use Rattle.clip_plan.specs.Steps.Outlines.{may_be_there, run_needs, run_alone, w
 use Rattle.clip_plan.specs.Steps.Outlines.{of_marks, outline, may_hold_by, settled_by}
 use Rattle.clip_plan.specs.Steps.Plans.{mark_of, step_may_be_there, Grows}
 use Rattle.clip_plan.specs.declared.outline.Outline.{Outline}
-use Rattle.clip_plan.specs.declared.outline.Outline.TheVariants.{Unknown, AnyKey}
+use Rattle.clip_plan.specs.declared.outline.Outline.TheVariants.{Unknown, AnyKey, NeedsEither}
 use Rattle.clip_plan.specs.declared.step.Step.{Step}
 use Rattle.clip_plan.specs.declared.step.Step.TheVariants as step
 use Rattle.clip_plan.proofs.Judging.{first_fails, one_judged, two_judged}
@@ -50,6 +50,14 @@ first_mark f [] d long = absurd (omega arith)
 first_mark f (s ∷ []) d long = absurd (omega arith)
 first_mark f (s ∷ t ∷ []) d long = absurd (omega arith)
 first_mark f (s ∷ t ∷ u ∷ steps) d long = refl
+
+-- a word or a run of three words and more
+pub longer_run : (word : ℕ) (run : List ℕ) → 3 ≤ length run
+    → NeedsEither word (get_or run 1 0) (get_or run 2 0) ≡ word_or_run word run
+longer_run word [] long = absurd (omega arith)
+longer_run word (a ∷ []) long = absurd (omega arith)
+longer_run word (a ∷ b ∷ []) long = absurd (omega arith)
+longer_run word (a ∷ b ∷ c ∷ others) long = refl
 
 module _ (runs : List (List ℕ)) (queries : List Tree) where
   step_may : (s : Step) → step_may_be_there s ≡ may_be_there (mark_of runs queries s)
