@@ -1,7 +1,7 @@
 -- A list of keys that is sorted and has none twice.
-use Rattle.std.proofs.Common.{◌≡◌, ℕ, ◌+◌, Bool, ◌&&◌, List, [], ◌∷◌, map, length, ◌<◌, refl, sym, ap, ◌∙◌}
-use Rattle.std.proofs.Common.{subst, arith, IsPermutation}
-use Rattle.std.specs.Ordering.{is_eq, is_lt, on, nat_cmp, ordering_then}
+use Rattle.std.proofs.Common.{◌≡◌, ℕ, Bool, ◌&&◌, List, [], ◌∷◌, map, length, ◌<◌, refl, sym, ap, ◌∙◌}
+use Rattle.std.proofs.Common.{◌≤◌, subst, arith, IsPermutation}
+use Rattle.std.specs.Ordering.{is_eq, on, nat_cmp, ordering_then}
 use Rattle.std.specs.declared.cmp.Ordering.TheVariants.{Less, Equal, Greater}
 use Rattle.std.specs.declared.cmp.Ordering.{Ordering}
 use Rattle.std.specs.Cmp.{on_total, eq_by_cmp_equiv, both_tied}
@@ -9,9 +9,9 @@ use Rattle.std.specs.Cmp.Lexicographic.{slice_cmp, texts_ties}
 use Rattle.std.specs.Arc.{arc_str_bytes}
 use Rattle.std.specs.Str.{bytes_eq}
 use Rattle.std.specs.List.{dedup, list_any, AllByRecursion}
-use Rattle.std.specs.List.Sorted.{IsSorted, IsSortedBy, IsStrictlySortedBy}
+use Rattle.std.specs.List.Sorted.{IsSorted, IsStrictlySortedBy}
 use Rattle.std.specs.List.Retain.{IsFiltered, DiffersFromLast}
-use Rattle.std.proofs.lemmas.List.{length-map, get_or-map}
+use Rattle.std.proofs.lemmas.List.{length-map}
 use Rattle.std.proofs.lemmas.List.Filters.{dedup_is}
 use Rattle.std.proofs.lemmas.List.Kept.{IsStrictlySortedBy-dedup}
 use Rattle.std.proofs.lemmas.List.Sorted.{list_any-IsPermutation}
@@ -20,7 +20,10 @@ use Rattle.clip_extract.specs.declared.key.Key.{Key}
 use Rattle.clip_extract.specs.declared.key.Key.TheVariants as variant
 use Rattle.clip_extract.specs.contracts.key.KeyOrd.TheImpl as key_ord
 use Rattle.clip_extract.specs.contracts.key.KeyPartialEq.TheImpl as key_eq
+use Rattle.clip_meaning.specs.Leads.{IsLead}
+use Rattle.clip_meaning.proofs.Leads.{leads_tie}
 use Rattle.clip_extract.specs.Keys.{KeyValue, key_of, key_cmp, is_same, in_order}
+use Rattle.clip_extract.specs.Steps.Lengths.{IsShort}
 use Rattle.clip_extract.proofs.Members.{any_map, any_deduped, strict_keys}
 use Rattle.clip_extract.proofs.Order.{key_cmp_total, key_cmp_same, same_key}
 
@@ -110,21 +113,25 @@ sorted_keys xs ys zs moved sorted =
     ∙ sym (any_map (is_same k) key_of xs))
     (subst (λ (C : Key → Key → Ordering). IsSorted C ys) order sorted)
 
--- what is in order as values
-unmapped : {A B : Type 0} (f : A → B) (lt : B → B → Bool) (xs : List A) → IsSortedBy lt (map f xs)
-    → IsSortedBy (λ x y. lt (f x) (f y)) xs
-unmapped f lt xs sorted k d low inside =
-    let next = get_or-map f xs (k + 1) d (f d) inside in
-    let this = get_or-map f xs k d (f d) (omega arith) in
-    (λ i. lt (sym next i) (sym this i)) ∙ sorted k (f d) low (omega (arith, length-map xs f))
+-- keys in order as values, each once
+pub sorted_values : (xs ys zs : List KeyValue) → IsPermutation xs ys → IsSorted key_cmp ys
+    → IsFiltered (DiffersFromLast is_same) [] ys zs → zs ≡ in_order xs
+sorted_values xs ys zs moved sorted filtered =
+    let laws = eq_by_cmp_equiv key_cmp_total in
+    dedup_is is_same ys zs filtered
+    ∙ strict_keys key_cmp_total key_cmp_same (dedup is_same ys) xs
+    (IsStrictlySortedBy-dedup key_cmp_total (λ x y. refl) ys sorted)
+    (λ k. any_deduped laws (λ l. l) (λ x y. same_key x y) (is_same k) ys
+    ∙ sym (list_any-IsPermutation (is_same k) xs ys moved))
 
-pub sorted_values : (xs ys zs : List Key) → IsPermutation (map key_of xs) (map key_of ys)
-    → IsSorted key_cmp (map key_of ys) → IsFiltered (DiffersFromLast key_eq.ghosts.eq) [] ys zs
-    → map key_of zs ≡ in_order (map key_of xs)
-sorted_values xs ys zs moved sorted =
-    deduped_keys xs ys zs
-    (λ k. sym (list_any-IsPermutation (is_same k) (map key_of xs) (map key_of ys) moved))
-    (unmapped key_of (λ k l. is_lt (key_cmp k l)) ys sorted)
+-- ---- leads and lengths
+
+-- short texts of one lead and one length are one
+pub short_texts_tie : (xs ys : List ℕ) (m n short : ℕ) → IsLead xs m → IsLead ys n → m ≡ n → IsShort xs short
+    → IsShort ys short → short ≤ 8 → Equal ≡ bytes_cmp xs ys
+short_texts_tie xs ys m n short is_m is_n same is_short is_short_too few =
+    leads_tie xs ys m n is_m is_n same (is_short few ∙ sym (is_short_too few))
+    (omega (arith, is_short few, few))
 
 -- so few need no sort
 few_rise : (ks : List KeyValue) → length ks < 2 → IsStrictlySortedBy key_cmp ks

@@ -2,7 +2,8 @@
 ghost use Rattle.std.specs.Prelude.{◌≡◌, IfOk, IsPermutation, map};
 ghost use Rattle.std.specs.List.Sorted.{IsSorted};
 ghost use Rattle.clip_words.specs.Order.{bytes_cmp};
-ghost use Rattle.clip_extract.specs.Keys.{key_of, key_cmp, text_of, in_order};
+ghost use Rattle.clip_extract.specs.Keys.{key_of, key_cmp, field_of, text_of, in_order};
+ghost use Rattle.clip_extract.specs.Steps.Lengths.{IsShort};
 
 use crate::key::Key;
 use clip_meaning::{compare_by_leads, lead_of};
@@ -13,45 +14,75 @@ use std::marker::Model;
 /// So many keys are compared by their leads; fewer are compared as they are, which takes no memory beside them.
 const MANY_KEYS: usize = 32;
 
-/// A key with the leads of its field and of its text, by which most keys are told apart without a look at their texts.
-/// Contracts see the key.
+/// A key with the leads and the short lengths of its field and of its text, by which most keys are told apart without a
+/// look at their texts. Contracts see the key.
 #[derive(Drop)]
 struct LedKey {
     field: u64,
     text: u64,
+    field_length: u8,
+    text_length: u8,
     key: Key,
 }
 
 impl Model for LedKey {
     ghost use Rattle.clip_meaning.specs.Leads.{IsLead};
     ghost use Rattle.clip_extract.specs.Keys.{KeyValue, key_of, field_of, text_of};
+    ghost use Rattle.clip_extract.specs.Steps.Lengths.{IsShort};
 
     ghost Value = { KeyValue };
 
     ghost view = { λ led. key_of led.key };
 
     ghost invariant = { λ led. IsLead (field_of (key_of led.key)) led.field
-        × IsLead (text_of (key_of led.key)) led.text };
+        × IsLead (text_of (key_of led.key)) led.text
+        × IsShort (field_of (key_of led.key)) led.field_length
+        × IsShort (text_of (key_of led.key)) led.text_length };
+}
+
+/// The length of a text of up to eight bytes, and nine for a longer one.
+fn short_length(text: &str) -> u8
+    ensures { IsShort text.now result }
+{
+    text.len().min(9) as u8
 }
 
 impl LedKey {
-    /// The key with its leads.
+    /// The key with its leads and its short lengths.
     fn of(key: Key) -> LedKey
         ensures { result ≡ key_of key }
     {
         LedKey {
             field: lead_of(key.field()),
             text: lead_of(key.text()),
+            field_length: short_length(key.field()),
+            text_length: short_length(key.text()),
             key,
         }
     }
 
-    /// Compares the texts, which are looked at only where they have the same lead.
+    /// Compares the fields, which are looked at only where they have the same lead and the lengths don't settle it.
+    fn order_fields(&self, other: &LedKey) -> Ordering
+        ensures { result ≡ bytes_cmp (field_of self.now) (field_of other.now) }
+    {
+        if self.field != other.field {
+            return self.field.cmp(&other.field);
+        }
+        if self.field_length == other.field_length && self.field_length <= 8 {
+            return Ordering::Equal;
+        }
+        compare_by_leads(self.key.field(), self.field, other.key.field(), other.field)
+    }
+
+    /// Compares the texts, which are looked at only where they have the same lead and the lengths don't settle it.
     fn order_texts(&self, other: &LedKey) -> Ordering
         ensures { result ≡ bytes_cmp (text_of self.now) (text_of other.now) }
     {
         if self.text != other.text {
             return self.text.cmp(&other.text);
+        }
+        if self.text_length == other.text_length && self.text_length <= 8 {
+            return Ordering::Equal;
         }
         compare_by_leads(self.key.text(), self.text, other.key.text(), other.text)
     }
@@ -64,11 +95,26 @@ impl LedKey {
         if ranks != Ordering::Equal {
             return ranks;
         }
-        let fields = compare_by_leads(self.key.field(), self.field, other.key.field(), other.field);
+        let fields = self.order_fields(other);
         if fields != Ordering::Equal {
             return fields;
         }
         self.order_texts(other)
+    }
+}
+
+impl PartialEq for LedKey {
+    ghost use Rattle.std.specs.Cmp.{eq_by_cmp_equiv, on_total, partial_equiv_from_equiv, then_total, nat_cmp_total};
+    ghost use Rattle.std.specs.Cmp.Lexicographic.{lists_total, nat_list_cmp_total};
+    ghost use Rattle.clip_extract.specs.Keys.{is_same, rank, texts};
+
+    ghost eq = { is_same };
+
+    ghost laws = { partial_equiv_from_equiv
+        (eq_by_cmp_equiv (then_total (on_total rank nat_cmp_total) (on_total texts (lists_total nat_list_cmp_total)))) };
+
+    fn eq(&self, other: &LedKey) -> bool {
+        self.order(other) == Ordering::Equal
     }
 }
 
@@ -94,10 +140,9 @@ fn bare_keys(led: Vec<LedKey>) -> Result<Vec<Key>, NoMemory>
     Ok(keys)
 }
 
-/// Sorts keys by their leads.
+/// Sorts keys by their leads, and leaves each once.
 fn sort_by_leads(keys: Vec<Key>) -> Result<Vec<Key>, NoMemory>
-    ensures permutation { IfOk result (λ sorted. IsPermutation (map key_of keys.items) (map key_of sorted.items)) }
-    ensures sorted { IfOk result (λ sorted. IsSorted key_cmp (map key_of sorted.items)) }
+    ensures { IfOk result (λ sorted. map key_of sorted.items ≡ in_order (map key_of keys.items)) }
 {
     let mut led = led_keys(keys)?;
     led.sort_unstable_by(
@@ -105,6 +150,7 @@ fn sort_by_leads(keys: Vec<Key>) -> Result<Vec<Key>, NoMemory>
             ensures { result ≡ key_cmp a.now b.now }
         { a.order(b) },
     );
+    led.dedup();
     let sorted = bare_keys(led)?;
     Ok(sorted)
 }
@@ -124,7 +170,5 @@ pub fn sort_keys(mut keys: Vec<Key>) -> Result<Vec<Key>, NoMemory>
         keys.dedup();
         return Ok(keys);
     }
-    let mut sorted = sort_by_leads(keys)?;
-    sorted.dedup();
-    Ok(sorted)
+    sort_by_leads(keys)
 }

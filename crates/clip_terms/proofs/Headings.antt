@@ -1,17 +1,18 @@
 -- The terms under a heading, and where one of a text stands among them.
 use Rattle.std.proofs.Common.{◌≡◌, ℕ, zero, suc, ◌+◌, ◌<◌, ◌≤◌, Bool, true, false, List, [], ◌∷◌, length, map, get_or}
 use Rattle.std.proofs.Common.{Option, Some, None, Ordering, Less, Equal, Greater, is_lt, is_le, is_eq, is_gt, refl, sym}
-use Rattle.std.proofs.Common.{ap, ◌∙◌, arith, inl, inr}
+use Rattle.std.proofs.Common.{ap, ap₂, ◌∙◌, arith, inl, inr}
 use Rattle.std.specs.Ordering.{ordering_then, ordering_reverse, nat_cmp, MatchOrdering}
-use Rattle.std.specs.Cmp.{IsTotalOrder, on_total, then_total, nat_cmp_total, tied_itself}
-use Rattle.std.specs.Cmp.Lexicographic.{nat_list_cmp_total}
+use Rattle.std.specs.Cmp.{IsTotalOrder, Equal-is, on_total, then_total, nat_cmp_total, tied_itself}
+use Rattle.std.specs.Cmp.Lexicographic.{nat_list_cmp_total, texts_ties}
+use Rattle.std.specs.Str.{bytes_eq}
 use Rattle.std.specs.List.Sorted.{IsStrictlySortedBy, IsPartitionedBy, IsPartitionPoint}
 use Rattle.std.proofs.lemmas.Bool.{cases_lt, true≢false, false≢true, false_from_ne_true}
 use Rattle.std.proofs.lemmas.Cmp.{ranked}
 use Rattle.std.proofs.lemmas.List.{get_or-map, length-map}
 use Rattle.clip_words.specs.Order.{bytes_cmp}
 use Rattle.clip_meaning.proofs.Fields.{bytes_exact}
-use Rattle.clip_extract.specs.Keys.{KeyValue, Any, Word, Front, key_of, key_cmp, is_same, text_of}
+use Rattle.clip_extract.specs.Keys.{KeyValue, Any, Word, Front, key_of, key_cmp, is_same, rank, field_of, text_of}
 use Rattle.clip_extract.specs.declared.key.Key.{Key}
 use Rattle.clip_extract.specs.declared.key.Key.TheVariants as variant
 use Rattle.clip_extract.proofs.Members.{less_from}
@@ -56,6 +57,16 @@ split (Word f w) (Front g v) = refl
 split (Front f w) Any = refl
 split (Front f w) (Word g v) = refl
 split (Front f w) (Front g v) = then_equal (bytes_cmp f g) (bytes_cmp w v)
+
+-- keys of one rank and one field compare as one heading
+pub one_heading : (x y : KeyValue) → rank x ≡ rank y → bytes_eq (field_of x) (field_of y) ≡ true
+    → Equal ≡ heading_cmp (heading x) (heading y)
+one_heading x y ranks fields =
+    let rank_ties : nat_cmp (rank x) (rank y) ≡ Equal =
+    ap (nat_cmp (rank x)) (sym ranks) ∙ tied_itself nat_cmp_total (rank x) in
+    let field_ties : bytes_cmp (field_of x) (field_of y) ≡ Equal =
+    (Equal-is (bytes_cmp (field_of x) (field_of y))).0 (sym (texts_ties (field_of x) (field_of y)) ∙ fields) in
+    sym (ap₂ ordering_then rank_ties field_ties)
 
 -- of one heading, by their texts alone
 under_one : (h : Heading) (x y : KeyValue) → heading x ≡ h → heading y ≡ h

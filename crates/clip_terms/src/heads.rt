@@ -5,7 +5,7 @@ ghost use Rattle.std.specs.List.Sorted.{IsStrictlySortedBy};
 ghost use Rattle.clip_words.specs.Order.{bytes_cmp};
 ghost use Rattle.clip_meaning.specs.Leads.{IsLead};
 ghost use Rattle.clip_extract.specs.Keys.{KeyValue, key_of, key_cmp, text_of, in_order};
-ghost use Rattle.clip_terms.specs.Steps.Leads.{AreLeads, IsShortLength, AreShortLengths};
+ghost use Rattle.clip_terms.specs.Steps.Leads.{heading, heading_cmp, AreLeads, IsShortLength, AreShortLengths};
 ghost use Rattle.clip_terms.specs.Steps.Merging.{IsLesser};
 
 use crate::leads::heading_order;
@@ -52,6 +52,16 @@ fn text_order(a: &Head, b: &Head) -> Ordering
     compare_by_leads(a.key.text(), a.lead, b.key.text(), b.lead)
 }
 
+/// Compares two keys by rank and field, which mostly are the same.
+fn key_headings(a: &Key, b: &Key) -> Ordering
+    ensures { result ≡ heading_cmp (heading (key_of a.now)) (heading (key_of b.now)) }
+{
+    if a.rank() == b.rank() && a.field() == b.field() {
+        return Ordering::Equal;
+    }
+    heading_order(a, b.rank(), b.field())
+}
+
 impl<'a> Head<'a> {
     /// A key with the lead and the short length of its text.
     pub(crate) fn with(key: &'a Key, lead: u64, length: u8) -> Head<'a>
@@ -78,7 +88,7 @@ impl<'a> Head<'a> {
     fn order(&self, other: &Head) -> Ordering
         ensures { result ≡ key_cmp self.now other.now }
     {
-        heading_order(self.key, other.key.rank(), other.key.field()).then(text_order(self, other))
+        key_headings(self.key, other.key).then(text_order(self, other))
     }
 }
 

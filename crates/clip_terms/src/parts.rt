@@ -61,28 +61,21 @@ fn field_part(keys: &[Key], field: &ArcStr) -> Result<FieldPart, NoMemory>
     })
 }
 
-/// Whether the last of these parts is that of a field.
-fn ends_with(parts: &[FieldPart], field: &str) -> bool {
-    match parts.last() {
-        Some(part) => part.field.as_str() == field,
-        None => false,
-    }
-}
-
 /// The parts of the fields of words, in the order of their names.
 pub(crate) fn parts_of(alloc: Global, keys: &[Key]) -> Result<Vec<FieldPart>, NoMemory>
     requires { IsStrictlySortedBy key_cmp (map key_of keys.now) }
     ensures { IfOk result (λ parts. All (IsFieldPart (map key_of keys.now)) parts.items) }
 {
     let mut parts = Vec::new(alloc);
-    for key in keys {
-        let Key::Word(field, _) = key else {
+    let mut place = 0;
+    while place < keys.len() {
+        let Key::Word(field, _) = &keys[place] else {
+            place += 1;
             continue;
         };
-        if ends_with(&parts, field) {
-            continue;
-        }
-        parts.push(field_part(keys, field)?)?;
+        let part = field_part(keys, field)?;
+        place = part.words.end.max(place + 1);
+        parts.push(part)?;
     }
     Ok(parts)
 }
@@ -100,12 +93,16 @@ fn part_at<'a>(parts: &'a [FieldPart], place: usize, field: &str) -> Option<&'a 
     Some(part)
 }
 
-/// The part of a field among those in the order of their names, if it is there.
+/// The part of a field among those in the order of their names, if it is there. Looks at the first one before it
+/// searches: mostly there are few fields, and one of them is asked for most.
 fn find<'a>(parts: &'a [FieldPart], field: &str) -> Option<&'a FieldPart>
     ensures part { (terms : List KeyValue) → All (IsFieldPart terms) parts.now
         → IfSome result (λ part. IsFieldPart terms part.now) }
     ensures field { IfSome result (λ part. arc_str_bytes part.now.field ≡ field.now) }
 {
+    if let Some(part) = part_at(parts, 0, field) {
+        return Some(part);
+    }
     let place = parts.partition_point(|part: &FieldPart| -> bool { part.field.as_str() < field });
     part_at(parts, place, field)
 }

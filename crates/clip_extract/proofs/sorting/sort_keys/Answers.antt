@@ -1,10 +1,6 @@
 use Rattle.std.proofs.Common.{arith}
-use Rattle.clip_extract.proofs.SortedKeys.{few_keys, sorted_keys, sorted_values}
+use Rattle.clip_extract.proofs.SortedKeys.{few_keys, sorted_keys}
 use Rattle.clip_extract.proofs.sorting.sort_keys.Goals as goal
-
-pub returns : goal.returns
-returns c = sorted_values c.args.keys.items c.in_ok-sorted.sorted.items c.dedup-2.new.self.items
-    c.in_ok-sorted.ensures.permutation c.in_ok-sorted.ensures.sorted c.dedup-2.ensures.filtered
 
 pub returns-then-len-lt2 : goal.returns-then-len-lt2
 returns-then-len-lt2 c = few_keys c.args.keys.items (omega (arith, c.len.ensures, c.if-len-lt2.true, c.args.keys.ok))

@@ -1,0 +1,22 @@
+use Rattle.std.proofs.Common.{ap₂, subst, sym, ◌∙◌}
+use Rattle.clip_words.specs.Order.{bytes_cmp}
+use Rattle.clip_meaning.proofs.Leads.{leads_settle}
+use Rattle.clip_extract.specs.Keys.{key_of, field_of}
+use Rattle.clip_extract.specs.Steps.Lengths.{IsShort}
+use Rattle.clip_extract.proofs.SortedKeys.{short_texts_tie}
+use Rattle.clip_extract.proofs.sorting.LedKey.order_fields.Goals as goal
+
+pub returns-then-self-other : goal.returns-then-self-other
+returns-then-self-other c =
+    c.cmp.ensures ∙ leads_settle _ _ _ _ c.self.invariant.0 c.other.invariant.0 c.if-self-other.true
+    ∙ ap₂ (λ k l. bytes_cmp (field_of k) (field_of l)) c.self.view_is c.other.view_is
+
+pub returns-then-self-le8 : goal.returns-then-self-le8
+returns-then-self-le8 c =
+    let a = c.self.inside in
+    let b = c.other.inside in
+    let ys = field_of (key_of b.key) in
+    short_texts_tie (field_of (key_of a.key)) ys a.field b.field a.field_length c.self.invariant.0 c.other.invariant.0
+    c.if-self-other.false c.self.invariant.2
+    (subst (IsShort ys) (sym c.if-self-other-2.true) c.other.invariant.2) c.if-self-le8.true
+    ∙ ap₂ (λ k l. bytes_cmp (field_of k) (field_of l)) c.self.view_is c.other.view_is
