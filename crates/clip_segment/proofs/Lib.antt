@@ -17,3 +17,4 @@ pub mod Selected
 pub mod Sent
 pub mod SeveralIndexes
 pub mod Sharing
+pub mod WordKeys

@@ -8,7 +8,8 @@ ghost use Rattle.clip_extract.specs.Keys.{KeyValue, key_of, key_cmp, in_order, i
 ghost use Rattle.clip_extract.specs.Extraction.{query_keys, second_keys};
 ghost use Rattle.clip_terms.specs.Terms.{number_of};
 ghost use Rattle.clip_plan.specs.Plan.{are_terms, decoded, plan_of};
-ghost use Rattle.clip_segment.specs.Index.{asked_of, terms_of};
+ghost use Rattle.clip_segment.specs.Index.{terms_of};
+ghost use Rattle.clip_segment.specs.Steps.Needed.{others, needed_of};
 ghost use Rattle.clip_segment.specs.Steps.Parts.{AreListsOf};
 ghost use Rattle.clip_indexed.specs.declared.segment.TheConstants.{MOST_POSITIONS};
 
@@ -53,23 +54,34 @@ fn add_copy(key: &Key, all: &mut Vec<Key>) -> Result<(), NoMemory>
     Ok(())
 }
 
-/// Adds copies of keys. Texts are shared.
-fn add_copies(keys: &[Key], all: &mut Vec<Key>) -> Result<(), NoMemory>
-    ensures { OnOk result (map key_of all.new.items ≡ map key_of all.old.items ++ map key_of keys.now) }
+/// Adds a copy of a key that is no word. Texts are shared.
+fn add_other(key: &Key, all: &mut Vec<Key>) -> Result<(), NoMemory>
+    ensures { OnOk result (map key_of all.new.items ≡ map key_of all.old.items ++ others (key_of key.now ∷ [])) }
+{
+    match key {
+        Key::Word(_, _) => Ok(()),
+        _ => add_copy(key, all),
+    }
+}
+
+/// Adds copies of the keys that are no words. Texts are shared.
+fn add_others(keys: &[Key], all: &mut Vec<Key>) -> Result<(), NoMemory>
+    ensures { OnOk result (map key_of all.new.items ≡ map key_of all.old.items ++ others (map key_of keys.now)) }
 {
     for key in keys {
-        add_copy(key, all)?;
+        add_other(key, all)?;
     }
     Ok(())
 }
 
-/// Adds the keys of a query, its second keys, and the words that it asks for. Texts are shared.
+/// Adds the words that a query asks for, which those of its keys and second keys are that are words, and the others of
+/// its keys. Texts are shared.
 fn add_asked(keyed: &Keyed, all: &mut Vec<Key>) -> Result<(), NoMemory>
     ensures { OnOk result (map key_of all.new.items
-        ≡ map key_of all.old.items ++ asked_of (tree_of keyed.now.query.now)) }
+        ≡ map key_of all.old.items ++ needed_of (tree_of keyed.now.query.now)) }
 {
-    add_copies(&keyed.keys, all)?;
-    add_copies(&keyed.seconds, all)?;
+    add_others(&keyed.keys, all)?;
+    add_others(&keyed.seconds, all)?;
     add_word_keys(keyed.query, all)
 }
 
@@ -81,7 +93,8 @@ pub(crate) fn terms_of(alloc: Global, queries: &[Keyed]) -> Result<Terms, NoMemo
     for query in queries {
         add_asked(query, &mut all)?;
     }
-    Terms::of(all)
+    let terms = Terms::of(all)?;
+    Ok(terms)
 }
 
 /// The number of a key that is a term.
