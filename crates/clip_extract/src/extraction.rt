@@ -280,6 +280,17 @@ pub(crate) fn add_keys(alloc: Global, query: &Query, keys: &mut Vec<Key>) -> Res
     }
 }
 
+/// The `keys` of a query in the order in which they are extracted, some maybe more than once.
+///
+/// `NoMemory` where an allocation failed. Cost: that of `keys` without its sort.
+pub fn loose_keys(alloc: Global, query: &Query) -> Result<Vec<Key>, NoMemory>
+    ensures { IfOk result (λ found. map key_of found.items ≡ (extract (tree_of query.now)).keys) }
+{
+    let mut found = Vec::new(alloc);
+    add_keys(alloc, query, &mut found)?;
+    Ok(found)
+}
+
 /// The keys of a query, in order, each once: an article of which it holds has one of them.
 ///
 /// As Lucene's term-filtered presearcher extracts terms: of a word its key, of a phrase that of its heaviest word, of a
@@ -293,7 +304,5 @@ pub(crate) fn add_keys(alloc: Global, query: &Query, keys: &mut Vec<Key>) -> Res
 pub fn keys(alloc: Global, query: &Query) -> Result<Vec<Key>, NoMemory>
     ensures { IfOk result (λ found. map key_of found.items ≡ query_keys (tree_of query.now)) }
 {
-    let mut found = Vec::new(alloc);
-    add_keys(alloc, query, &mut found)?;
-    sort_keys(found)
+    sort_keys(loose_keys(alloc, query)?)
 }

@@ -11,9 +11,9 @@ mod second;
 mod sorting;
 mod weighed;
 
-pub use extraction::{keys, weight};
+pub use extraction::{keys, loose_keys, weight};
 pub use front::{Fronts, has_front_key};
 pub use key::{Key, MOST_FRONT_CHARACTERS};
 pub use laws::{covering_law, second_covering_law};
-pub use second::second_keys;
+pub use second::{loose_second_keys, second_keys};
 pub use sorting::sort_keys;

@@ -3,10 +3,10 @@ ghost use Rattle.std.specs.Prelude.{◌≡◌, IfOk, map, option_map};
 ghost use Rattle.std.specs.List.{list_all};
 ghost use Rattle.clip_grammar.specs.Tree.{tree_of};
 ghost use Rattle.clip_extract.specs.Keys.{key_of};
-ghost use Rattle.clip_extract.specs.Extraction.{extract, is_word, only_words, second_found, second_keys};
+ghost use Rattle.clip_extract.specs.Extraction.{extract, is_word, only_words, second_extract, second_found, second_keys};
 ghost use Rattle.clip_extract.specs.Steps.Seconds.{heavier_of, next_ranked, ranked, weighed};
 
-use crate::extraction::add_keys;
+use crate::extraction::loose_keys;
 use crate::key::Key;
 use crate::sorting::sort_keys;
 use crate::weighed::Weighed;
@@ -102,6 +102,18 @@ fn only_words(mut keys: Vec<Key>) -> Vec<Key>
     keys
 }
 
+/// The `second_keys` of a query in the order in which they are extracted, some maybe more than once.
+///
+/// `NoMemory` where an allocation failed. Cost: that of `second_keys` without its sort.
+pub fn loose_second_keys(alloc: Global, query: &Query) -> Result<Vec<Key>, NoMemory>
+    ensures { IfOk result (λ found. map key_of found.items ≡ second_extract (tree_of query.now)) }
+{
+    match second_child(query) {
+        Some(child) => Ok(only_words(loose_keys(alloc, child)?)),
+        None => Ok(Vec::new(alloc)),
+    }
+}
+
 /// The second keys of a query, in order, each once: where there are some, an article of which the query holds has one
 /// of them too, beside one of its `keys`.
 ///
@@ -115,12 +127,5 @@ fn only_words(mut keys: Vec<Key>) -> Vec<Key>
 pub fn second_keys(alloc: Global, query: &Query) -> Result<Vec<Key>, NoMemory>
     ensures { IfOk result (λ found. map key_of found.items ≡ second_keys (tree_of query.now)) }
 {
-    let mut found = Vec::new(alloc);
-    match second_child(query) {
-        Some(child) => {
-            add_keys(alloc, child, &mut found)?;
-            sort_keys(only_words(found))
-        }
-        None => Ok(found),
-    }
+    sort_keys(loose_second_keys(alloc, query)?)
 }

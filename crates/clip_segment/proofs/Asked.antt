@@ -78,6 +78,17 @@ asked_terms seen items i x terms inside is are =
     ap (list_any (is_same key)) are ∙ among_in_order (flat_map asked_of (map seen items)) key
     ∙ asked_among seen items i x key inside is h)
 
+-- so are keys that it has
+pub had_terms : {A : Type 0} (keys_of : Tree → List KeyValue) → AreAsked keys_of → (seen : A
+    → Tree) (items : List A) (i : ℕ) (x : A) (terms keys : List KeyValue)
+    → i < length items → x ≡ get_or items i x → terms ≡ terms_of (map seen items)
+    → ((key : KeyValue) → list_any (is_same key) keys ≡ list_any (is_same key) (keys_of (seen x)))
+    → IsTrue (are_terms terms keys)
+had_terms keys_of asked seen items i x terms keys inside is are same =
+    terms_from terms keys (λ key h.
+    ap (list_any (is_same key)) are ∙ among_in_order (flat_map asked_of (map seen items)) key
+    ∙ asked_among seen items i x key inside is (asked key (seen x) (sym (same key) ∙ h)))
+
 -- its keys, its second keys and its words
 abbrev pub AreTermsOf : List KeyValue → Tree → Type 0
 AreTermsOf terms tree = IsTrue (are_terms terms (query_keys tree)) × IsTrue (are_terms terms (second_keys tree))

@@ -7,6 +7,8 @@ use Rattle.std.specs.List.{filter, enumerate_from}
 use Rattle.clip_grammar.specs.Tree.{Tree}
 use Rattle.clip_extract.specs.Keys.{KeyValue}
 use Rattle.clip_segment.specs.Index.{has_key, query_positions, query_positions_with}
+use Rattle.clip_segment.specs.Steps.Ends.{NoneEnds}
+use Rattle.clip_segment.proofs.Ended.{none_ends}
 
 enumerate_push : (n : ℕ) (ts : List Tree) (t : Tree) → enumerate_from n (ts ++ t ∷ [])
     ≡ enumerate_from n ts ++ (n + length ts, t) ∷ []
@@ -47,11 +49,13 @@ pub next_query : (keys_of : Tree → List KeyValue) {A : Type 0} (seen : A
     → Tree) (terms : List KeyValue) (items : List A) (j : ℕ) (query : A) (position : ℕ) (old new : List (List ℕ))
     → j < length items → query ≡ get_or items j query → position ≡ j
     → old ≡ map (λ term. query_positions_with keys_of term (map seen (take j items))) terms
-    → ((f : KeyValue → List ℕ) → old ≡ map f terms
+    → ((f : KeyValue → List ℕ) → NoneEnds f position → old ≡ map f terms
     → new ≡ map (λ term. f term ++ cond (has_key keys_of term (seen query)) (position ∷ []) []) terms)
     → new ≡ map (λ term. query_positions_with keys_of term (map seen (take (j + 1) items))) terms
 next_query keys_of seen terms items j query position old new inside is same before added =
-    added _ before
+    added _
+    (none_ends keys_of (map seen (take j items)) position
+    (length-map (take j items) seen ∙ length-take-le j items (omega arith) ∙ sym same)) before
     ∙ ap (λ n. map (λ term. query_positions_with keys_of term (map seen (take j items))
     ++ cond (has_key keys_of term (seen query)) (n ∷ []) []) terms) same
     ∙ ap (λ q. map (λ term. query_positions_with keys_of term (map seen (take j items))

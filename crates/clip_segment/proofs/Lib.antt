@@ -2,6 +2,7 @@ pub mod Answering
 pub mod AnyOf
 pub mod Asked
 pub mod Counting
+pub mod Ended
 pub mod EntryPositions
 pub mod Flagged
 pub mod Holding

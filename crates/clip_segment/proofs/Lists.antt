@@ -1,26 +1,21 @@
 -- A list of positions for each term, after one more position.
-use Rattle.std.proofs.Common.{◌≡◌, ℕ, suc, ◌+◌, ◌<◌, Bool, true, false, cond, List, [], ◌∷◌, ◌++◌, length, map, take}
+use Rattle.std.proofs.Common.{◌≡◌, ℕ, suc, Bool, true, false, cond, List, [], ◌∷◌, ◌++◌, length, map}
 use Rattle.std.proofs.Common.{get_or, set, replicate, Option, Some, None, option_map, refl, sym, ◌∙◌, ap, append-nil}
 use Rattle.std.proofs.Common.{subst}
 use Rattle.std.specs.Ordering.{is_eq}
 use Rattle.std.specs.declared.cmp.Ordering.TheVariants.{Less}
 use Rattle.std.specs.List.{list_any, AllByRecursion}
 use Rattle.std.specs.List.Sorted.{IsStrictlySortedBy}
-use Rattle.clip_extract.proofs.Order.{among_in_order, same_key}
-use Rattle.clip_extract.specs.Keys.{KeyValue, key_of, key_cmp, is_same, in_order}
-use Rattle.clip_extract.specs.declared.key.Key.{Key}
+use Rattle.clip_extract.proofs.Order.{same_key}
+use Rattle.clip_extract.specs.Keys.{KeyValue, key_cmp, is_same}
 use Rattle.clip_terms.specs.Terms.{number_of}
 use Rattle.clip_grammar.specs.Tree.{Tree}
 use Rattle.clip_segment.specs.Index.{positions_by}
-use Rattle.clip_segment.proofs.Keys.{key_added, same_in_order}
+use Rattle.clip_segment.specs.Steps.Ends.{with_positions, NoneEnds}
 
 -- what stands under a term, with more where it is the key
 abbrev pub with_list : KeyValue → List ℕ → (KeyValue → List ℕ) → KeyValue → List ℕ
 with_list key more under term = under term ++ cond (is_same key term) more []
-
--- with a position more
-abbrev pub with_position : KeyValue → ℕ → (KeyValue → List ℕ) → KeyValue → List ℕ
-with_position key position = with_list key (position ∷ [])
 
 -- nothing comes to terms above the key
 untouched : (key : KeyValue) (more : List ℕ) (under : KeyValue → List ℕ) (ts : List KeyValue)
@@ -61,36 +56,18 @@ position_added key more under (t ∷ ts) n rising e =
         ∙ ap (λ x. x ∷ map (with_list key more under) ts) (sym (append-nil (under t))
         ∙ ap (λ b. under t ++ cond b more []) (sym other)))
 
--- what stands under a term, with a position more where it is one of the keys
-abbrev pub with_positions : List KeyValue → ℕ → (KeyValue → List ℕ) → KeyValue → List ℕ
-with_positions keys position under term = under term ++ cond (list_any (is_same term) keys) (position ∷ []) []
-
--- a position under one more key of a query
-pub next_key : (terms : List KeyValue) (position : ℕ) (under : KeyValue
-    → List ℕ) (ks : List Key) (j : ℕ) (key : Key) (old new : List (List ℕ))
-    → map key_of ks ≡ in_order (map key_of ks) → j < length ks → key ≡ get_or ks j key
-    → old ≡ map (with_positions (map key_of (take j ks)) position under) terms
-    → ((f : KeyValue → List ℕ) → old ≡ map f terms → new ≡ map (with_position (key_of key) position f) terms)
-    → new ≡ map (with_positions (map key_of (take (j + 1) ks)) position under) terms
-next_key terms position under ks j key old new once inside is before added =
-    added _ before
-    ∙ ap (λ k. map (with_position (key_of k) position (with_positions (map key_of (take j ks)) position under)) terms)
-    is
-    ∙ ap (λ f. map f terms) (λ i t. key_added (under t) position ks (map key_of ks) j key t once inside i)
-
 -- no query has any term
 pub none_yet : (keys_of : Tree → List KeyValue) (terms : List KeyValue)
     → replicate (length terms) [] ≡ positions_by keys_of terms []
 none_yet keys_of [] = refl
 none_yet keys_of (t ∷ ts) = ap (λ xs. [] ∷ xs) (none_yet keys_of ts)
 
--- the same with the query's keys by another name
-pub added_keys : (terms : List KeyValue) (position : ℕ) (ks ls : List KeyValue) (old new : List (List ℕ)) → ks ≡ ls
-    → ((f : KeyValue → List ℕ) → old ≡ map f terms → new ≡ map (with_positions ks position f) terms)
-    → (f : KeyValue → List ℕ) → old ≡ map f terms → new ≡ map (with_positions ls position f) terms
-added_keys terms position ks ls old new same added f before =
-    added f before ∙ ap (λ keys. map (with_positions keys position f) terms) same
-
--- keys in order stay so
-pub in_order_still : (ks all : List KeyValue) → ks ≡ in_order all → ks ≡ in_order ks
-in_order_still ks all are = are ∙ sym (ap in_order are ∙ same_in_order (in_order all) all (among_in_order all))
+-- the same with other keys that have the same members
+pub added_keys : (terms : List KeyValue) (position : ℕ) (ks ls : List KeyValue) (old new : List (List ℕ))
+    → ((key : KeyValue) → list_any (is_same key) ks ≡ list_any (is_same key) ls)
+    → ((f : KeyValue → List ℕ) → NoneEnds f position → old ≡ map f terms
+    → new ≡ map (with_positions ks position f) terms)
+    → (f : KeyValue → List ℕ) → NoneEnds f position → old ≡ map f terms
+    → new ≡ map (with_positions ls position f) terms
+added_keys terms position ks ls old new same added f fresh before =
+    added f fresh before ∙ ap (λ g. map g terms) (λ i t. f t ++ cond (same t i) (position ∷ []) [])

@@ -209,17 +209,18 @@ needed_is_asked : (key : KeyValue) (tree : Tree) → list_any (is_same key) (nee
     ≡ list_any (is_same key) (asked_of tree)
 needed_is_asked key tree =
     let p = is_same key in
-    let q = query_keys tree in
-    let s = second_keys tree in
+    let q = (extract tree).keys in
+    let s = second_extract tree in
     let w = word_keys tree in
     list_any-append p (others q ++ others s) w
     ∙ ap (λ b. b || list_any p w) (list_any-append p (others q) (others s)
     ∙ (λ i. others_with key q i || others_with key s i))
     ∙ either_needed (list_any p q) (list_any p s) (list_any p w) (is_other key)
-    (λ other h. words_among tree key (other_or_word key other) (sym (among_in_order (extract tree).keys key) ∙ h))
-    (λ other h. seconds_among tree key (other_or_word key other) (sym (among_in_order (second_extract tree) key) ∙ h))
-    ∙ ap (λ b. b || list_any p w) (sym (list_any-append p q s))
-    ∙ sym (list_any-append p (q ++ s) w)
+    (λ other h. words_among tree key (other_or_word key other) h)
+    (λ other h. seconds_among tree key (other_or_word key other) h)
+    ∙ ap (λ b. b || list_any p w) ((λ i. sym (among_in_order q key) i || sym (among_in_order s key) i)
+    ∙ sym (list_any-append p (query_keys tree) (second_keys tree)))
+    ∙ sym (list_any-append p (query_keys tree ++ second_keys tree) w)
 
 -- with these the terms are all there
 pub needed_terms : (trees : List Tree) → in_order (flat_map needed_of trees) ≡ in_order (flat_map asked_of trees)

@@ -1,4 +1,5 @@
 -- Private fields as contracts see them, and steps of the work; no public clause cites it.
+pub mod Ends
 pub mod IndexView
 pub mod LabelledView
 pub mod Needed

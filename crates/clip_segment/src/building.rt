@@ -5,30 +5,31 @@ ghost use Rattle.std.specs.List.{list_any};
 ghost use Rattle.std.specs.List.Sorted.{IsStrictlySortedBy};
 ghost use Rattle.clip_grammar.specs.Tree.{tree_of};
 ghost use Rattle.clip_extract.specs.Keys.{KeyValue, key_of, key_cmp, in_order, is_same};
-ghost use Rattle.clip_extract.specs.Extraction.{query_keys, second_keys};
+ghost use Rattle.clip_extract.specs.Extraction.{extract, second_extract};
 ghost use Rattle.clip_terms.specs.Terms.{number_of};
 ghost use Rattle.clip_plan.specs.Plan.{are_terms, decoded, plan_of};
 ghost use Rattle.clip_segment.specs.Index.{terms_of};
 ghost use Rattle.clip_segment.specs.Steps.Needed.{others, needed_of};
 ghost use Rattle.clip_segment.specs.Steps.Parts.{AreListsOf};
+ghost use Rattle.clip_segment.specs.Steps.Ends.{ends_with, once_more, with_positions, NoneEnds};
 ghost use Rattle.clip_indexed.specs.declared.segment.TheConstants.{MOST_POSITIONS};
 
 use crate::term_lists::TermLists;
-use clip_extract::{Key, keys, second_keys};
+use clip_extract::{Key, loose_keys, loose_second_keys};
 use clip_grammar::query::Query;
 use clip_plan::{Plans, add_word_keys};
 use clip_terms::Terms;
 use clip_words::NoMemory;
 use std::alloc::Global;
 
-/// A query with its keys and its second keys.
+/// A query with its keys and its second keys, in no order.
 #[derive(Drop)]
 pub(crate) struct Keyed<'a> {
     query: &'a Query,
     keys: Vec<Key>,
     seconds: Vec<Key>,
-    ghost own: { map key_of keys.items ≡ query_keys (tree_of query.now) },
-    ghost own_seconds: { map key_of seconds.items ≡ second_keys (tree_of query.now) },
+    ghost own: { map key_of keys.items ≡ (extract (tree_of query.now)).keys },
+    ghost own_seconds: { map key_of seconds.items ≡ second_extract (tree_of query.now) },
 }
 
 /// Queries with their keys and their second keys.
@@ -39,8 +40,8 @@ pub(crate) fn with_keys<'a>(alloc: Global, queries: &'a [Query]) -> Result<Vec<K
     for query in queries {
         keyed.push(Keyed {
             query,
-            keys: keys(alloc, query)?,
-            seconds: second_keys(alloc, query)?,
+            keys: loose_keys(alloc, query)?,
+            seconds: loose_second_keys(alloc, query)?,
         })?;
     }
     Ok(keyed)
@@ -108,18 +109,39 @@ fn number_of(terms: &Terms, key: &Key) -> u32
     number
 }
 
-/// Adds a position at the end of the list of a number.
+/// Whether a list ends with a position.
+fn ends_with(list: &[u32], position: u32) -> bool
+    ensures { result ≡ ends_with list.now position }
+{
+    match list.last() {
+        Some(last) => *last == position,
+        None => false,
+    }
+}
+
+/// Adds a position at the end of a list that does not end with it.
+fn add_once(list: &mut Vec<u32>, position: u32) -> Result<(), NoMemory>
+    ensures { OnOk result (list.new.items ≡ once_more list.old.items position) }
+{
+    if ends_with(list, position) {
+        return Ok(());
+    }
+    list.push(position)?;
+    Ok(())
+}
+
+/// Adds a position at the end of the list of a number, if that does not end with it.
 fn add_to_list(lists: &mut Vec<Vec<u32>>, number: usize, position: u32) -> Result<(), NoMemory>
     requires { number < length lists.old.items }
     ensures { OnOk result (map vec_items lists.new.items
         ≡ set (map vec_items lists.old.items) number
-        (get_or (map vec_items lists.old.items) number [] ++ position ∷ [])) }
+        (once_more (get_or (map vec_items lists.old.items) number []) position)) }
 {
-    lists[number].push(position)?;
+    add_once(&mut lists[number], position)?;
     Ok(())
 }
 
-/// Adds a position to the list of a key that is a term, where each term has its list.
+/// Adds a position to the list of a key that is a term, where each term has its list, if that does not end with it.
 fn add_to_key(
     terms: &Terms,
     key: &Key,
@@ -130,16 +152,16 @@ fn add_to_key(
     requires term { IsTrue (are_terms terms.now (key_of key.now ∷ [])) }
     requires long { length lists.old.items ≡ length terms.now }
     ensures long { OnOk result (length lists.new.items ≡ length terms.now) }
-    ensures added { OnOk result ((under : KeyValue → List ℕ) → map vec_items lists.old.items ≡ map under terms.now
+    ensures added { OnOk result ((before : List KeyValue) (under : KeyValue → List ℕ) → NoneEnds under position
+        → map vec_items lists.old.items ≡ map (with_positions before position under) terms.now
         → map vec_items lists.new.items
-        ≡ map (λ term. under term ++ (if is_same (key_of key.now) term then position ∷ [] else [])) terms.now) }
+        ≡ map (with_positions (before ++ key_of key.now ∷ []) position under) terms.now) }
 {
     add_to_list(lists, number_of(terms, key) as usize, position)?;
     Ok(())
 }
 
-/// Adds a query's position to the list of each of these keys of it, which are terms in order, each once, where each
-/// term has its list.
+/// Adds a query's position to the list of each of these keys of it, which are terms, where each term has its list.
 fn add_position(
     terms: &Terms,
     keys: &[Key],
@@ -148,12 +170,10 @@ fn add_position(
 ) -> Result<(), NoMemory>
     requires rising { IsStrictlySortedBy key_cmp terms.now }
     requires terms { IsTrue (are_terms terms.now (map key_of keys.now)) }
-    requires once { map key_of keys.now ≡ in_order (map key_of keys.now) }
     requires long { length lists.old.items ≡ length terms.now }
-    ensures { OnOk result ((under : KeyValue → List ℕ) → map vec_items lists.old.items ≡ map under terms.now
-        → map vec_items lists.new.items
-        ≡ map (λ term. under term
-        ++ (if list_any (is_same term) (map key_of keys.now) then position ∷ [] else [])) terms.now) }
+    ensures { OnOk result ((under : KeyValue → List ℕ) → NoneEnds under position
+        → map vec_items lists.old.items ≡ map under terms.now
+        → map vec_items lists.new.items ≡ map (with_positions (map key_of keys.now) position under) terms.now) }
 {
     for key in keys {
         add_to_key(terms, key, position, lists)?;

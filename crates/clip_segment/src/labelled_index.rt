@@ -69,7 +69,8 @@ impl Index for LabelledIndex {
     ///
     /// `NoMemory` where an allocation failed, and where their queries have more than 4,294,967,295 terms or as many
     /// bytes of ids. Cost: the reading of their texts, an extraction of each query's keys and second keys, a sort of
-    /// these and of the words of all, a binary search for each of them, and a copy of each id.
+    /// the words of all and of the keys that are no words, a binary search for each key and each word, and a copy of
+    /// each id.
     fn of(alloc: Global, entries: &[Arc<Entry>]) -> Result<LabelledIndex, NoMemory> {
         Ok(LabelledIndex {
             labels: Labels::of(alloc, entries)?,

@@ -72,8 +72,8 @@ impl QueryIndex {
     /// The index of these queries, of which there are at most `MOST_POSITIONS`.
     ///
     /// `NoMemory` where an allocation failed, and where the queries have more than 4,294,967,295 terms. Cost: an
-    /// extraction of each query's keys and second keys, a sort of these and of the words of all, and a binary search
-    /// for each of them.
+    /// extraction of each query's keys and second keys, a sort of the words of all and of the keys that are no words,
+    /// and a binary search for each key and each word.
     /// No text is copied but ends of ranges.
     pub(crate) fn of(alloc: Global, queries: &[Query]) -> Result<QueryIndex, NoMemory>
         requires { length queries.now ≤ MOST_POSITIONS }

@@ -2,7 +2,7 @@
 use Rattle.std.specs.Prelude.{Bool, true, false, List, ◌++◌, filter}
 use Rattle.clip_grammar.specs.Tree.{Tree}
 use Rattle.clip_extract.specs.Keys.{KeyValue, Any, Word, Front}
-use Rattle.clip_extract.specs.Extraction.{query_keys, second_keys}
+use Rattle.clip_extract.specs.Extraction.{extract, second_extract}
 use Rattle.clip_plan.specs.Plan.{word_keys}
 
 -- the key is no word
@@ -17,4 +17,4 @@ others keys = filter is_other keys
 
 -- the words that a query asks for, and those of its keys that are no words
 abbrev pub needed_of : Tree → List KeyValue
-needed_of tree = others (query_keys tree) ++ others (second_keys tree) ++ word_keys tree
+needed_of tree = others (extract tree).keys ++ others (second_extract tree) ++ word_keys tree

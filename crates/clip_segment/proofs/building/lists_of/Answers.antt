@@ -1,15 +1,16 @@
-use Rattle.std.proofs.Common.{◌+◌, ◌∙◌, [], map, replicate, length, ap, sym, subst, vec_items, refl, IsTrue, arith}
+use Rattle.std.proofs.Common.{◌+◌, ◌∙◌, [], map, replicate, length, ap, sym, subst, vec_items, refl, arith}
 use Rattle.std.proofs.lemmas.List.{length-map}
 use Rattle.std.specs.List.Sorted.{IsStrictlySortedBy}
 use Rattle.std.proofs.lemmas.Grind.{common_steps}
 use Rattle.clip_grammar.specs.Tree.{tree_of}
 use Rattle.clip_extract.specs.Extraction.{extract, query_keys, second_extract, second_keys}
-use Rattle.clip_extract.specs.Keys.{key_of, key_cmp}
+use Rattle.std.specs.List.{list_any}
+use Rattle.clip_extract.specs.Keys.{key_of, key_cmp, is_same}
+use Rattle.clip_extract.proofs.Order.{among_in_order}
 use Rattle.clip_terms.proofs.Numbers.{in_order_rises}
-use Rattle.clip_plan.specs.Plan.{are_terms}
-use Rattle.clip_segment.proofs.Asked.{asked_parts, asked_terms}
+use Rattle.clip_segment.proofs.Asked.{had_terms, keys_asked, seconds_asked}
 use Rattle.clip_segment.proofs.IndexPositions.{next_query}
-use Rattle.clip_segment.proofs.Lists.{added_keys, in_order_still, none_yet}
+use Rattle.clip_segment.proofs.Lists.{added_keys, none_yet}
 use Rattle.clip_segment.proofs.building.lists_of.Goals as goal
 
 pub loop-query-init : goal.loop-query-init
@@ -30,15 +31,10 @@ add_position-requires-clause-rising c = subst (IsStrictlySortedBy key_cmp) (sym 
 pub add_position-requires-clause-terms : goal.add_position-requires-clause-terms
 add_position-requires-clause-terms c =
     let query = c.query-item.result in
-    subst (λ ks. IsTrue (are_terms c.args.terms.now ks)) (sym (ap (map key_of) c.deref.ensures.value ∙ query.own))
-    (asked_parts c.args.terms.now (tree_of query.query.now)
-    (asked_terms (λ k. tree_of k.query.now) c.args.queries.now c.loop-query.query-index query c.args.terms.now
-    c.loop-query-test.true c.query-item.is c.requires.terms)).0
-
-pub add_position-requires-clause-once : goal.add_position-requires-clause-once
-add_position-requires-clause-once c =
-    let query = c.query-item.result in
-    in_order_still _ (extract (tree_of query.query.now)).keys (ap (map key_of) c.deref.ensures.value ∙ query.own)
+    had_terms query_keys keys_asked (λ k. tree_of k.query.now) c.args.queries.now c.loop-query.query-index query c.args.terms.now _
+    c.loop-query-test.true c.query-item.is c.requires.terms
+    (λ key. ap (λ ks. list_any (is_same key) ks) (ap (map key_of) c.deref.ensures.value ∙ query.own)
+    ∙ sym (among_in_order (extract (tree_of query.query.now)).keys key))
 
 pub add_position-requires-clause-long : goal.add_position-requires-clause-long
 add_position-requires-clause-long c =
@@ -52,17 +48,10 @@ add_position-requires-in-loop-query-clause-rising c =
 pub add_position-requires-in-loop-query-clause-terms : goal.add_position-requires-in-loop-query-clause-terms
 add_position-requires-in-loop-query-clause-terms c =
     let query = c.query-item.result in
-    subst (λ ks. IsTrue (are_terms c.args.terms.now ks)) (sym (ap (map key_of) c.deref-in-loop-query.ensures.value
-    ∙ query.own_seconds))
-    (asked_parts c.args.terms.now (tree_of query.query.now)
-    (asked_terms (λ k. tree_of k.query.now) c.args.queries.now c.loop-query.query-index query c.args.terms.now
-    c.loop-query-test.true c.query-item.is c.requires.terms)).1
-
-pub add_position-requires-in-loop-query-clause-once : goal.add_position-requires-in-loop-query-clause-once
-add_position-requires-in-loop-query-clause-once c =
-    let query = c.query-item.result in
-    in_order_still _ (second_extract (tree_of query.query.now)) (ap (map key_of) c.deref-in-loop-query.ensures.value
-    ∙ query.own_seconds)
+    had_terms second_keys seconds_asked (λ k. tree_of k.query.now) c.args.queries.now c.loop-query.query-index query c.args.terms.now _
+    c.loop-query-test.true c.query-item.is c.requires.terms
+    (λ key. ap (λ ks. list_any (is_same key) ks) (ap (map key_of) c.deref-in-loop-query.ensures.value ∙ query.own_seconds)
+    ∙ sym (among_in_order (second_extract (tree_of query.query.now)) key))
 
 pub add_position-requires-in-loop-query-clause-long : goal.add_position-requires-in-loop-query-clause-long
 add_position-requires-in-loop-query-clause-long c =
@@ -80,13 +69,16 @@ loop-query-preserved c =
         positions =
             next_query query_keys (λ k. tree_of k.query.now) terms c.args.queries.now c.loop-query.query-index query
             c.loop-query.position _ _ c.loop-query-test.true c.query-item.is before.position before.lists.positions
-            (added_keys terms c.loop-query.position _ _ _ _ (ap (map key_of) c.deref.ensures.value
-            ∙ query.own) c.in_ok-add_position.ensures);
+            (added_keys terms c.loop-query.position _ (query_keys (tree_of query.query.now)) _ _
+            (λ key. ap (λ ks. list_any (is_same key) ks) (ap (map key_of) c.deref.ensures.value ∙ query.own)
+            ∙ sym (among_in_order (extract (tree_of query.query.now)).keys key)) c.in_ok-add_position.ensures);
         seconds =
             next_query second_keys (λ k. tree_of k.query.now) terms c.args.queries.now c.loop-query.query-index query
             c.loop-query.position _ _ c.loop-query-test.true c.query-item.is before.position before.lists.seconds
-            (added_keys terms c.loop-query.position _ _ _ _ (ap (map key_of) c.deref-in-loop-query.ensures.value
-            ∙ query.own_seconds) c.in_ok-add_position-2.ensures);
+            (added_keys terms c.loop-query.position _ (second_keys (tree_of query.query.now)) _ _
+            (λ key. ap (λ ks. list_any (is_same key) ks) (ap (map key_of) c.deref-in-loop-query.ensures.value
+            ∙ query.own_seconds)
+            ∙ sym (among_in_order (second_extract (tree_of query.query.now)) key)) c.in_ok-add_position-2.ensures);
       };
     }
 
