@@ -5,7 +5,7 @@ use Rattle.std.proofs.Common.{unwrap_or, slice_get, Option, Some, None, refl, sy
 use Rattle.std.proofs.Common.{append-nil, append_assoc, eq-eqb, ne_eqb}
 use Rattle.std.proofs.Common.{inl, inr}
 use Rattle.std.specs.Prelude.{option_to_list}
-use Rattle.std.specs.List.{AllByRecursion, list_any, enumerate_from, count_by}
+use Rattle.std.specs.List.{AllByRecursion, list_all, list_any, enumerate_from, count_by}
 use Rattle.std.specs.List.Sorted.{IsStrictlySortedBy}
 use Rattle.std.specs.declared.cmp.Ordering.TheVariants.{Less}
 use Rattle.std.proofs.Math.Bool.{or-true, or-false}
@@ -26,6 +26,15 @@ use Rattle.clip_segment.specs.Steps.Parts.{flag_at, moved, new_position, new_pos
 pub flagged_none : {A : Type 0} (flags : List Bool) → flagged {A = A} flags [] ≡ []
 flagged_none [] = refl
 flagged_none (flag ∷ flags) = refl
+
+-- all are kept where each flag is set
+pub flagged_whole : {A : Type 0} (flags : List Bool) (xs : List A) → list_all (λ flag. flag) flags ≡ true
+    → length xs ≤ length flags → flagged flags xs ≡ xs
+flagged_whole [] [] all few = refl
+flagged_whole [] (x ∷ xs) all few = absurd (omega arith)
+flagged_whole (flag ∷ flags) [] all few = refl
+flagged_whole (true ∷ flags) (x ∷ xs) all few = ap (λ ys. x ∷ ys) (flagged_whole flags xs all (omega arith))
+flagged_whole (false ∷ flags) (x ∷ xs) all few = absurd (false≢true all)
 
 -- ---- one item after another
 

@@ -1,5 +1,5 @@
 //! The terms of the queries that are kept of several indexes.
-ghost use Rattle.std.specs.Prelude.{◌≡◌, ◌++◌, ◌||◌, ◌<◌, ◌∷◌, [], ℕ, List, IfOk, OnOk, length, map, flat_map, nat_eq};
+ghost use Rattle.std.specs.Prelude.{◌≡◌, ◌++◌, ◌||◌, ◌<◌, ◌≤◌, true, ◌∷◌, [], ℕ, List, IfOk, OnOk, length, map, flat_map, nat_eq};
 ghost use Rattle.std.specs.Prelude.{unwrap_or, slice_get, vec_items};
 ghost use Rattle.std.specs.List.{AllZip, list_any};
 ghost use Rattle.std.specs.List.Sorted.{IsStrictlySortedBy};
@@ -116,8 +116,8 @@ fn flagged_heads<'a>(
     Ok(heads)
 }
 
-/// The terms of an index that its kept queries ask for.
-fn kept_heads<'a>(
+/// The terms of an index that its kept queries ask for, where some are not kept.
+fn some_heads<'a>(
     alloc: Global,
     index: &'a QueryIndex,
     kept: &[bool],
@@ -133,6 +133,52 @@ fn kept_heads<'a>(
     let numbers = kept_numbers(alloc, &index.plans, kept)?;
     set_all(&mut used, &numbers);
     flagged_heads(alloc, &index.terms, &used)
+}
+
+/// Whether at least so many flags are there, and each is set.
+fn are_all_set(flags: &[bool], count: usize) -> bool
+    ensures { result ≡ true → (trees : List Tree) → length trees ≤ count → flagged flags.now trees ≡ trees }
+{
+    if flags.len() < count {
+        return false;
+    }
+    for flag in flags {
+        if !*flag {
+            return false;
+        }
+    }
+    true
+}
+
+/// All terms.
+fn all_heads<'a>(alloc: Global, terms: &'a Terms) -> Result<Vec<Head<'a>>, NoMemory>
+    ensures rising { IfOk result (λ heads. IsStrictlySortedBy key_cmp heads.items) }
+    ensures all { IfOk result (λ heads. heads.items ≡ terms.now) }
+{
+    terms.order_law();
+    let mut heads = Vec::with_capacity(alloc, terms.len())?;
+    for number in 0..terms.len() {
+        heads.push(terms.head(number))?;
+    }
+    Ok(heads)
+}
+
+/// The terms of an index that its kept queries ask for: mostly all are kept.
+fn kept_heads<'a>(
+    alloc: Global,
+    index: &'a QueryIndex,
+    kept: &[bool],
+) -> Result<Vec<Head<'a>>, NoMemory>
+    ensures rising { IfOk result (λ heads. IsStrictlySortedBy key_cmp heads.items) }
+    ensures asked { IfOk result (λ heads. (trees : List Tree) → IsIndexOf trees index.now → (key : KeyValue)
+        → list_any (is_same key) heads.items
+        ≡ list_any (is_same key) (flat_map asked_of (flagged kept.now trees))) }
+{
+    if are_all_set(kept, index.plans.len()) {
+        let heads = all_heads(alloc, &index.terms)?;
+        return Ok(heads);
+    }
+    some_heads(alloc, index, kept)
 }
 
 /// The terms of the kept queries of several indexes.
