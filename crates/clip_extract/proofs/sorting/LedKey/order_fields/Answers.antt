@@ -1,4 +1,4 @@
-use Rattle.std.proofs.Common.{ap₂, subst, sym, ◌∙◌}
+use Rattle.std.proofs.Common.{rules, ap₂, subst, sym, ◌∙◌}
 use Rattle.clip_words.specs.Order.{bytes_cmp}
 use Rattle.clip_meaning.proofs.Leads.{leads_settle}
 use Rattle.clip_extract.specs.Keys.{key_of, field_of}
@@ -20,3 +20,6 @@ returns-then-self-le8 c =
     c.if-self-other.false c.self.invariant.2
     (subst (IsShort ys) (sym c.if-self-other-2.true) c.other.invariant.2) c.if-self-le8.true
     ∙ ap₂ (λ k l. bytes_cmp (field_of k) (field_of l)) c.self.view_is c.other.view_is
+
+pub returns : goal.returns
+returns c = search rules
