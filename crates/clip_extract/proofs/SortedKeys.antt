@@ -23,7 +23,7 @@ use Rattle.clip_extract.specs.contracts.key.KeyPartialEq.TheImpl as key_eq
 use Rattle.clip_meaning.specs.Leads.{IsLead}
 use Rattle.clip_meaning.proofs.Leads.{leads_tie}
 use Rattle.clip_extract.specs.Keys.{KeyValue, key_of, key_cmp, is_same, in_order}
-use Rattle.clip_extract.specs.Steps.Lengths.{IsShort}
+use Rattle.clip_extract.specs.Lengths.{IsShortLength}
 use Rattle.clip_extract.proofs.Members.{any_map, any_deduped, strict_keys}
 use Rattle.clip_extract.proofs.Order.{key_cmp_total, key_cmp_same, same_key}
 
@@ -127,8 +127,8 @@ sorted_values xs ys zs moved sorted filtered =
 -- ---- leads and lengths
 
 -- short texts of one lead and one length are one
-pub short_texts_tie : (xs ys : List ℕ) (m n short : ℕ) → IsLead xs m → IsLead ys n → m ≡ n → IsShort xs short
-    → IsShort ys short → short ≤ 8 → Equal ≡ bytes_cmp xs ys
+pub short_texts_tie : (xs ys : List ℕ) (m n short : ℕ) → IsLead xs m → IsLead ys n → m ≡ n → IsShortLength xs short
+    → IsShortLength ys short → short ≤ 8 → Equal ≡ bytes_cmp xs ys
 short_texts_tie xs ys m n short is_m is_n same is_short is_short_too few =
     leads_tie xs ys m n is_m is_n same (is_short few ∙ sym (is_short_too few))
     (omega (arith, is_short few, few))

@@ -3,3 +3,4 @@ pub mod Fronts
 pub mod Extraction
 pub mod Covering
 pub mod Steps
+pub mod Lengths

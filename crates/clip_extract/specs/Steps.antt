@@ -3,4 +3,3 @@ pub mod Fronts
 pub mod Groups
 pub mod Leaves
 pub mod Seconds
-pub mod Lengths

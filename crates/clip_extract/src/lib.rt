@@ -16,4 +16,4 @@ pub use front::{Fronts, has_front_key};
 pub use key::{Key, MOST_FRONT_CHARACTERS};
 pub use laws::{covering_law, second_covering_law};
 pub use second::{loose_second_keys, second_keys};
-pub use sorting::sort_keys;
+pub use sorting::{short_length, sort_keys};

@@ -3,7 +3,8 @@ ghost use Rattle.std.specs.Prelude.{◌≡◌, IfOk, map, option_map};
 ghost use Rattle.std.specs.List.{list_all};
 ghost use Rattle.clip_grammar.specs.Tree.{tree_of};
 ghost use Rattle.clip_extract.specs.Keys.{key_of};
-ghost use Rattle.clip_extract.specs.Extraction.{extract, is_word, only_words, second_extract, second_found, second_keys};
+ghost use Rattle.clip_extract.specs.Extraction.{extract, is_word, only_words, second_extract, second_found};
+ghost use Rattle.clip_extract.specs.Extraction.{second_keys};
 ghost use Rattle.clip_extract.specs.Steps.Seconds.{heavier_of, next_ranked, ranked, weighed};
 
 use crate::extraction::loose_keys;

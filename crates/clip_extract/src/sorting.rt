@@ -3,7 +3,7 @@ ghost use Rattle.std.specs.Prelude.{◌≡◌, IfOk, IsPermutation, map};
 ghost use Rattle.std.specs.List.Sorted.{IsSorted};
 ghost use Rattle.clip_words.specs.Order.{bytes_cmp};
 ghost use Rattle.clip_extract.specs.Keys.{key_of, key_cmp, field_of, text_of, in_order};
-ghost use Rattle.clip_extract.specs.Steps.Lengths.{IsShort};
+ghost use Rattle.clip_extract.specs.Lengths.{IsShortLength};
 
 use crate::key::Key;
 use clip_meaning::{compare_by_leads, lead_of};
@@ -28,7 +28,7 @@ struct LedKey {
 impl Model for LedKey {
     ghost use Rattle.clip_meaning.specs.Leads.{IsLead};
     ghost use Rattle.clip_extract.specs.Keys.{KeyValue, key_of, field_of, text_of};
-    ghost use Rattle.clip_extract.specs.Steps.Lengths.{IsShort};
+    ghost use Rattle.clip_extract.specs.Lengths.{IsShortLength};
 
     ghost Value = { KeyValue };
 
@@ -36,13 +36,13 @@ impl Model for LedKey {
 
     ghost invariant = { λ led. IsLead (field_of (key_of led.key)) led.field
         × IsLead (text_of (key_of led.key)) led.text
-        × IsShort (field_of (key_of led.key)) led.field_length
-        × IsShort (text_of (key_of led.key)) led.text_length };
+        × IsShortLength (field_of (key_of led.key)) led.field_length
+        × IsShortLength (text_of (key_of led.key)) led.text_length };
 }
 
-/// The length of a text of up to eight bytes, and nine for a longer one.
-fn short_length(text: &str) -> u8
-    ensures { IsShort text.now result }
+/// The length of a text of up to eight bytes, and nine for a longer one. Takes no memory. Constant time.
+pub fn short_length(text: &str) -> u8
+    ensures { IsShortLength text.now result }
 {
     text.len().min(9) as u8
 }
@@ -111,7 +111,8 @@ impl PartialEq for LedKey {
     ghost eq = { is_same };
 
     ghost laws = { partial_equiv_from_equiv
-        (eq_by_cmp_equiv (then_total (on_total rank nat_cmp_total) (on_total texts (lists_total nat_list_cmp_total)))) };
+        (eq_by_cmp_equiv
+        (then_total (on_total rank nat_cmp_total) (on_total texts (lists_total nat_list_cmp_total)))) };
 
     fn eq(&self, other: &LedKey) -> bool {
         self.order(other) == Ordering::Equal

@@ -380,7 +380,7 @@ impl Room {
 ///
 /// `NoMemory` where an allocation failed. Cost: a step for each word of the article; in each segment that of
 /// `SegmentReading::sharer_marks`, a step for each 64 entries, one for each candidate that its second keys do not rule
-/// out, and for each that its first clause does not either that of `SegmentReading::holds`; and that of `add_held`. No
+/// out, and for each that its outline does not either that of `SegmentReading::holds`; and that of `add_held`. No
 /// entry is looked at.
 pub(crate) fn judge_candidates<'a>(
     alloc: Global,

@@ -1,6 +1,7 @@
 -- Lists of positions that end with one, and lists for each term after one more key of a query.
 use Rattle.std.proofs.Common.{◌≡◌, ℕ, zero, suc, ◌+◌, ◌-◌, ◌<◌, ◌≤◌, Bool, true, false, ◌||◌, cond, List, [], ◌∷◌, ◌++◌}
-use Rattle.std.proofs.Common.{length, map, filter, take, get_or, set, Option, Some, None, slice_get, unwrap_or, refl, sym, ap, ◌∙◌, subst}
+use Rattle.std.proofs.Common.{length, map, filter, take, get_or, set, Option, Some, None, slice_get, unwrap_or, refl}
+use Rattle.std.proofs.Common.{sym, ap, ◌∙◌, subst}
 use Rattle.std.proofs.Common.{arith, append-nil, length-append}
 use Rattle.std.proofs.lemmas.Bool.{eq-eqb, eqb-true, false≢true, false_from_ne_true}
 use Rattle.std.proofs.lemmas.List.{get_or-map, set-get_or, take_more, map-append}
@@ -54,7 +55,8 @@ lesser test n p [] few = tt
 lesser test n p (t ∷ ts) few =
     let others = filter (λ (e : ℕ × Tree). test e.1) (enumerate_from (n + 1) ts) in
     let rest = lesser test (n + 1) p ts (omega arith) in
-    elim (test t) as (λ b. AllByRecursion (λ m. m < p) (map (λ (e : ℕ × Tree). e.0) (cond b ((n, t) ∷ others) others))) [
+    elim (test t) as
+    (λ b. AllByRecursion (λ m. m < p) (map (λ (e : ℕ × Tree). e.0) (cond b ((n, t) ∷ others) others))) [
       | true ↦ (omega arith, rest)
       | false ↦ rest
     ]

@@ -1,5 +1,6 @@
 //! The terms of the queries that are kept of several indexes.
-ghost use Rattle.std.specs.Prelude.{◌≡◌, ◌++◌, ◌||◌, ◌<◌, ◌≤◌, true, ◌∷◌, [], ℕ, List, IfOk, OnOk, length, map, flat_map, nat_eq};
+ghost use Rattle.std.specs.Prelude.{◌≡◌, ◌++◌, ◌||◌, ◌<◌, ◌≤◌, true, ◌∷◌, [], ℕ, List, IfOk, OnOk, length};
+ghost use Rattle.std.specs.Prelude.{map, flat_map, nat_eq};
 ghost use Rattle.std.specs.Prelude.{unwrap_or, slice_get, vec_items};
 ghost use Rattle.std.specs.List.{AllZip, list_any};
 ghost use Rattle.std.specs.List.Sorted.{IsStrictlySortedBy};

@@ -1,6 +1,6 @@
 -- Terms and their leads, one after another.
 use Rattle.std.proofs.Common.{◌≡◌, ℕ, zero, suc, ◌<◌, ◌≤◌, List, [], ◌∷◌, ◌++◌, length, map, take, drop, get_or, Less}
-use Rattle.std.proofs.Common.{Equal, Greater, is_gt, nat_lt, if◌then◌else◌, ◌+◌, ◌-◌, refl, sym, ap, subst, ◌∙◌, arith}
+use Rattle.std.proofs.Common.{Greater, is_gt, nat_lt, if◌then◌else◌, ◌+◌, ◌-◌, refl, sym, ap, subst, ◌∙◌, arith}
 use Rattle.std.proofs.Common.{inl, inr}
 use Rattle.std.specs.Ordering.{ordering_reverse}
 use Rattle.std.specs.Cmp.Lexicographic.{nat_list_cmp_total}
@@ -8,7 +8,7 @@ use Rattle.std.proofs.lemmas.Bool.{cases_lt, lt-ltb, le-ltb, false≢true}
 use Rattle.std.proofs.lemmas.List.{get_or-map, get_or_default}
 use Rattle.clip_words.specs.Order.{bytes_cmp}
 use Rattle.clip_meaning.specs.Leads.{IsLead}
-use Rattle.clip_meaning.proofs.Leads.{lead_below, leads_tie}
+use Rattle.clip_meaning.proofs.Leads.{lead_below}
 use Rattle.clip_extract.specs.Keys.{KeyValue, Any, key_of, text_of}
 use Rattle.clip_extract.specs.declared.key.Key.{Key}
 use Rattle.clip_terms.specs.Steps.Leads.{AreLeads, IsShortLength, AreShortLengths, NeverFall, TextsRise}
@@ -52,12 +52,6 @@ lengths_push [] [] t short are is = (is, tt)
 lengths_push [] (l ∷ lengths) t short are is = absurd are
 lengths_push (x ∷ ts) [] t short are is = absurd are
 lengths_push (x ∷ ts) (l ∷ lengths) t short are is = (are.0, lengths_push ts lengths t short are.1 is)
-
--- texts of one lead and of one length up to eight are the same
-pub short_texts_tie : (xs ys : List ℕ) (m n short : ℕ) → IsLead xs m → IsLead ys n → m ≡ n → IsShortLength xs short
-    → IsShortLength ys short → short ≤ 8 → Equal ≡ bytes_cmp xs ys
-short_texts_tie xs ys m n short a b same first second few =
-    leads_tie xs ys m n a b same (first few ∙ sym (second few)) (omega (arith, first few, few))
 
 -- the term at a place is the key of what was read there
 pub read_at : (keys : List Key) (n : ℕ) (k : Key) → n < length keys → k ≡ get_or keys n k → (d : KeyValue)

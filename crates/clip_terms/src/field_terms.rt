@@ -259,6 +259,24 @@ impl<'a> FieldTerms<'a> {
         self.number_near(word)
     }
 
+    /// The number of a word of the field, `None` where it is no term, looked for at a place first where it likely is.
+    /// Takes no memory. Cost: that of `word`, where it is not there.
+    pub(crate) fn number_from(&self, word: &Sought<'_>, likely: usize) -> Option<u32>
+        ensures { result ≡ number_of self.now.terms (Word self.now.field word.now) }
+    {
+        if is_at(
+            self.keys,
+            self.leads,
+            self.lengths,
+            &self.words,
+            word,
+            likely,
+        ) {
+            return Some(likely as u32);
+        }
+        self.number(word)
+    }
+
     /// The number of a word of the field, of whose lead there is a mark. A function of its own, so that the look at the
     /// mark stands in the loops over words.
     fn number_near(&self, word: &Sought<'_>) -> Option<u32>

@@ -6,7 +6,7 @@ ghost use Rattle.clip_extract.specs.Keys.{key_of, text_of};
 ghost use Rattle.clip_terms.specs.Steps.Leads.{heading, heading_cmp, AreLeads, IsShortLength, AreShortLengths};
 ghost use Rattle.clip_terms.specs.Steps.Sought.{text_sought};
 
-use clip_extract::Key;
+use clip_extract::{Key, short_length};
 use clip_meaning::{compare_by_leads, lead_of};
 use clip_words::NoMemory;
 use std::alloc::Global;
@@ -30,13 +30,6 @@ pub(crate) fn leads_of(alloc: Global, keys: &[Key]) -> Result<Vec<u64>, NoMemory
         leads.push(lead_of(key.text()))?;
     }
     Ok(leads)
-}
-
-/// The length of a text of up to eight bytes, and nine for a longer one.
-pub(crate) fn short_length(text: &str) -> u8
-    ensures { IsShortLength text.now result }
-{
-    text.len().min(9) as u8
 }
 
 /// The short lengths of the texts of keys, in order.

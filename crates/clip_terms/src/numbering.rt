@@ -42,14 +42,38 @@ pub(crate) fn word_numbers(
     Ok(numbers)
 }
 
-/// The number of a key, of whose text the lead and the short length are given, none of a key that is no term. The terms
-/// of a field become those of its field.
+/// How many terms are passed at most, one by one, to the place where the next key likely is.
+const MOST_STEPS: usize = 16;
+
+/// Where the term of a text with this lead likely is: at the first of some places from one on whose lead is not below.
+fn likely_from(leads: &[u64], from: usize, lead: u64) -> usize {
+    let mut place = from;
+    for _ in 0..MOST_STEPS {
+        if place >= leads.len() || leads[place] >= lead {
+            return place;
+        }
+        place += 1;
+    }
+    place
+}
+
+/// Where the next term likely is: behind the number of this one, or where this one was looked for.
+fn likely_behind(number: Option<u32>, likely: usize) -> usize {
+    match number {
+        Some(number) => number as usize + 1,
+        None => likely,
+    }
+}
+
+/// The number of a key, of whose text the lead and the short length are given, none of a key that is no term. Looks
+/// first where it likely is. The terms of a field become those of its field.
 fn key_number<'a>(
     terms: &'a Terms,
     of_field: &mut FieldTerms<'a>,
     key: &'a Key,
     lead: u64,
     short: u8,
+    likely: usize,
 ) -> Option<u32>
     requires terms { of_field.old.terms ≡ terms.now }
     requires lead { IsLead (text_of (key_of key.now)) lead }
@@ -63,11 +87,11 @@ fn key_number<'a>(
     if !of_field.is_of(field) {
         *of_field = terms.of_field(field);
     }
-    of_field.number(&Sought::with(SoughtText::Word(word), lead, short))
+    of_field.number_from(&Sought::with(SoughtText::Word(word), lead, short), likely)
 }
 
 /// The numbers of keys, beside which their leads and short lengths are given, in order; none of a key that is no term.
-/// Keys of one field are side by side.
+/// Keys rise as terms do, so each is looked for first some places behind the one before it.
 pub(crate) fn key_numbers<'a>(
     alloc: Global,
     terms: &'a Terms,
@@ -81,15 +105,14 @@ pub(crate) fn key_numbers<'a>(
 {
     let mut numbers = Vec::with_capacity(alloc, keys.len())?;
     let mut of_field = terms.of_field("");
+    let mut likely = 0;
     for place in 0..keys.len() {
-        let number = key_number(
-            terms,
-            &mut of_field,
-            &keys[place],
-            leads[place],
-            lengths[place],
-        );
-        numbers.push(number)?;
+        let key = &keys[place];
+        let lead = leads[place];
+        likely = likely_from(terms.leads(), likely, lead);
+        let found = key_number(terms, &mut of_field, key, lead, lengths[place], likely);
+        likely = likely_behind(found, likely);
+        numbers.push(found)?;
     }
     Ok(numbers)
 }

@@ -116,6 +116,9 @@ fn read_field(
     Ok(read)
 }
 
+/// Room for so many numbers is made at once.
+const NUMBERS_AT_ONCE: usize = 256;
+
 impl<'a> Reading<'a> {
     /// Reads an article by these terms.
     ///
@@ -127,7 +130,7 @@ impl<'a> Reading<'a> {
         ensures { IfOk result (λ reading. reading ≡ record { terms = terms.now; article = asking.now }) }
     {
         terms.order_law();
-        let mut numbers = Vec::new(alloc);
+        let mut numbers = Vec::with_capacity(alloc, NUMBERS_AT_ONCE)?;
         add_known(terms.number(&Key::Any), &mut numbers)?;
         let mut fields = Vec::with_capacity(alloc, asking.fields().len())?;
         for asked in asking.fields() {

@@ -221,8 +221,8 @@ impl Terms {
 
     /// The numbers of other terms, in their order; none of one that is no term here.
     ///
-    /// `NoMemory` where an allocation failed. Cost: a binary search for each of them, by the first bytes of its
-    /// text, which are known; a text is looked at where it is longer than these.
+    /// `NoMemory` where an allocation failed. Cost: for each of them some steps from the place of the one before it, and
+    /// where it is not found so that of `number`, by the first bytes of its text, which are known.
     pub fn numbers(&self, alloc: Global, others: &Terms) -> Result<Vec<Option<u32>>, NoMemory>
         ensures { IfOk result (λ numbers. numbers.items ≡ map (number_of self.now) others.now) }
     {

@@ -4,7 +4,7 @@ ghost use Rattle.std.specs.Arc.{arc_str_bytes};
 ghost use Rattle.clip_extract.specs.Keys.{Word};
 ghost use Rattle.clip_terms.specs.Steps.WordKeys.{keys_in, AreKept};
 
-use crate::leads::short_length;
+use clip_extract::short_length;
 use clip_meaning::Posting;
 use clip_words::NoMemory;
 use std::alloc::Global;

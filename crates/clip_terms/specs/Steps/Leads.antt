@@ -7,6 +7,7 @@ use Rattle.std.specs.declared.cmp.Ordering.TheVariants.{Less}
 use Rattle.clip_words.specs.Order.{bytes_cmp}
 use Rattle.clip_meaning.specs.Leads.{IsLead}
 use Rattle.clip_extract.specs.Keys.{KeyValue, rank, field_of, text_of}
+pub use Rattle.clip_extract.specs.Lengths.{IsShortLength}
 
 -- what a key's text is listed under
 abbrev pub heading : KeyValue → ℕ × List ℕ
@@ -22,10 +23,6 @@ AreLeads [] [] = Unit {0}
 AreLeads [] (lead ∷ leads) = ⊥
 AreLeads (term ∷ terms) [] = ⊥
 AreLeads (term ∷ terms) (lead ∷ leads) = IsLead (text_of term) lead × AreLeads terms leads
-
--- where the short length is at most eight, it is the text's length
-abbrev pub IsShortLength : (text : List ℕ) → (short : ℕ) → Type 0
-IsShortLength text short = short ≤ 8 → length text ≡ short
 
 -- beside each term is the short length of its text
 abbrev pub AreShortLengths : List KeyValue → (lengths : List ℕ) → Type 0

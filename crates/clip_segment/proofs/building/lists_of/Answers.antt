@@ -31,7 +31,8 @@ add_position-requires-clause-rising c = subst (IsStrictlySortedBy key_cmp) (sym 
 pub add_position-requires-clause-terms : goal.add_position-requires-clause-terms
 add_position-requires-clause-terms c =
     let query = c.query-item.result in
-    had_terms query_keys keys_asked (λ k. tree_of k.query.now) c.args.queries.now c.loop-query.query-index query c.args.terms.now _
+    had_terms query_keys keys_asked (λ k. tree_of k.query.now) c.args.queries.now
+    c.loop-query.query-index query c.args.terms.now _
     c.loop-query-test.true c.query-item.is c.requires.terms
     (λ key. ap (λ ks. list_any (is_same key) ks) (ap (map key_of) c.deref.ensures.value ∙ query.own)
     ∙ sym (among_in_order (extract (tree_of query.query.now)).keys key))
@@ -48,9 +49,11 @@ add_position-requires-in-loop-query-clause-rising c =
 pub add_position-requires-in-loop-query-clause-terms : goal.add_position-requires-in-loop-query-clause-terms
 add_position-requires-in-loop-query-clause-terms c =
     let query = c.query-item.result in
-    had_terms second_keys seconds_asked (λ k. tree_of k.query.now) c.args.queries.now c.loop-query.query-index query c.args.terms.now _
+    had_terms second_keys seconds_asked (λ k. tree_of k.query.now) c.args.queries.now
+    c.loop-query.query-index query c.args.terms.now _
     c.loop-query-test.true c.query-item.is c.requires.terms
-    (λ key. ap (λ ks. list_any (is_same key) ks) (ap (map key_of) c.deref-in-loop-query.ensures.value ∙ query.own_seconds)
+    (λ key. ap (λ ks. list_any (is_same key) ks)
+    (ap (map key_of) c.deref-in-loop-query.ensures.value ∙ query.own_seconds)
     ∙ sym (among_in_order (second_extract (tree_of query.query.now)) key))
 
 pub add_position-requires-in-loop-query-clause-long : goal.add_position-requires-in-loop-query-clause-long

@@ -3,7 +3,7 @@ use Rattle.clip_words.specs.Order.{bytes_cmp}
 use Rattle.clip_meaning.proofs.Leads.{leads_settle}
 use Rattle.clip_extract.specs.Keys.{key_of, text_of}
 use Rattle.clip_terms.specs.Steps.Leads.{IsShortLength}
-use Rattle.clip_terms.proofs.LeadsOfTerms.{short_texts_tie}
+use Rattle.clip_extract.proofs.SortedKeys.{short_texts_tie}
 use Rattle.clip_terms.proofs.heads.text_order.Goals as goal
 
 pub returns-then-a-b : goal.returns-then-a-b

@@ -16,8 +16,8 @@ loop-place-init c = record {
       ap (λ (v : FieldTermsValue). v.terms) c.of_field-of_field.ensures;
 }
 
-pub key_number-number-requires-clause-terms : goal.key_number-number-requires-clause-terms
-key_number-number-requires-clause-terms c = c.loop-place.invariant.terms
+pub key_number-found-requires-clause-terms : goal.key_number-found-requires-clause-terms
+key_number-found-requires-clause-terms c = c.loop-place.invariant.terms
 
 pub loop-place-preserved : goal.loop-place-preserved
 loop-place-preserved c =
@@ -29,27 +29,18 @@ loop-place-preserved c =
     record {
       numbers =
           c.in_ok-push.ensures.items
-          ∙ ap (λ numbers. numbers ++ c.key_number-number.result ∷ []) c.loop-place.invariant.numbers
-          ∙ ap (λ n. map number before ++ n ∷ []) (c.key_number-number.ensures.number
+          ∙ ap (λ numbers. numbers ++ c.key_number-found.result ∷ []) c.loop-place.invariant.numbers
+          ∙ ap (λ n. map number before ++ n ∷ []) (c.key_number-found.ensures.number
           ∙ ap (λ (k : Key). number (key_of k)) c.index-keys-place.is)
           ∙ sym (ap (map number) (map_more key_of keys i key c.loop-place-test.true)
           ∙ map_push number before (key_of (get_or keys i key)));
-      terms = c.key_number-number.ensures.terms;
+      terms = c.key_number-found.ensures.terms;
     }
 
 pub returns : goal.returns
 returns c = c.loop-place.invariant.numbers
     ∙ ap (λ keys. map (number_of c.args.terms.now) (map key_of keys))
     (take_all c.loop-place.place c.args.keys.now c.loop-place-test.false)
-
-pub bounds-lengths-place : goal.bounds-lengths-place
-bounds-lengths-place c =
-    omega (
-      arith,
-      c.loop-place-test.true,
-      lengths_long (map key_of c.args.keys.now) c.args.lengths.now c.requires.lengths,
-      length-map c.args.keys.now key_of,
-    )
 
 pub bounds-leads-place : goal.bounds-leads-place
 bounds-leads-place c =
@@ -60,8 +51,17 @@ bounds-leads-place c =
       length-map c.args.keys.now key_of,
     )
 
-pub key_number-number-requires-clause-lead : goal.key_number-number-requires-clause-lead
-key_number-number-requires-clause-lead c =
+pub bounds-lengths-place : goal.bounds-lengths-place
+bounds-lengths-place c =
+    omega (
+      arith,
+      c.loop-place-test.true,
+      lengths_long (map key_of c.args.keys.now) c.args.lengths.now c.requires.lengths,
+      length-map c.args.keys.now key_of,
+    )
+
+pub key_number-found-requires-clause-lead : goal.key_number-found-requires-clause-lead
+key_number-found-requires-clause-lead c =
     let keys = c.args.keys.now in
     let leads = c.args.leads.now in
     let place = c.loop-place.place in
@@ -71,8 +71,8 @@ key_number-number-requires-clause-lead c =
     (lead_at (map key_of keys) leads c.requires.leads place (key_of k)
     (omega (arith, c.loop-place-test.true, length-map keys key_of)))
 
-pub key_number-number-requires-clause-short : goal.key_number-number-requires-clause-short
-key_number-number-requires-clause-short c =
+pub key_number-found-requires-clause-short : goal.key_number-found-requires-clause-short
+key_number-found-requires-clause-short c =
     let keys = c.args.keys.now in
     let lengths = c.args.lengths.now in
     let place = c.loop-place.place in

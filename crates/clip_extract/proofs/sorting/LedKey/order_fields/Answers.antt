@@ -2,7 +2,7 @@ use Rattle.std.proofs.Common.{rules, ap₂, subst, sym, ◌∙◌}
 use Rattle.clip_words.specs.Order.{bytes_cmp}
 use Rattle.clip_meaning.proofs.Leads.{leads_settle}
 use Rattle.clip_extract.specs.Keys.{key_of, field_of}
-use Rattle.clip_extract.specs.Steps.Lengths.{IsShort}
+use Rattle.clip_extract.specs.Lengths.{IsShortLength}
 use Rattle.clip_extract.proofs.SortedKeys.{short_texts_tie}
 use Rattle.clip_extract.proofs.sorting.LedKey.order_fields.Goals as goal
 
@@ -18,7 +18,7 @@ returns-then-self-le8 c =
     let ys = field_of (key_of b.key) in
     short_texts_tie (field_of (key_of a.key)) ys a.field b.field a.field_length c.self.invariant.0 c.other.invariant.0
     c.if-self-other.false c.self.invariant.2
-    (subst (IsShort ys) (sym c.if-self-other-2.true) c.other.invariant.2) c.if-self-le8.true
+    (subst (IsShortLength ys) (sym c.if-self-other-2.true) c.other.invariant.2) c.if-self-le8.true
     ∙ ap₂ (λ k l. bytes_cmp (field_of k) (field_of l)) c.self.view_is c.other.view_is
 
 pub returns : goal.returns

@@ -3,7 +3,7 @@ use Rattle.clip_meaning.proofs.Fields.{bytes_exact}
 use Rattle.clip_extract.specs.Keys.{key_of, text_of}
 use Rattle.clip_terms.specs.Steps.Leads.{IsShortLength}
 use Rattle.clip_terms.specs.Steps.Sought.{text_sought}
-use Rattle.clip_terms.proofs.LeadsOfTerms.{short_texts_tie}
+use Rattle.clip_extract.proofs.SortedKeys.{short_texts_tie}
 use Rattle.clip_terms.proofs.leads.Sought.is_text_of.Goals as goal
 
 pub returns-then-length-le8 : goal.returns-then-length-le8

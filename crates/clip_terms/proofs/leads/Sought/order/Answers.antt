@@ -4,7 +4,7 @@ use Rattle.clip_meaning.proofs.Leads.{leads_settle}
 use Rattle.clip_extract.specs.Keys.{key_of, text_of}
 use Rattle.clip_terms.specs.Steps.Leads.{IsShortLength}
 use Rattle.clip_terms.specs.Steps.Sought.{text_sought}
-use Rattle.clip_terms.proofs.LeadsOfTerms.{short_texts_tie}
+use Rattle.clip_extract.proofs.SortedKeys.{short_texts_tie}
 use Rattle.clip_terms.proofs.leads.Sought.order.Goals as goal
 
 pub returns-then-lead-self : goal.returns-then-lead-self

@@ -21,7 +21,7 @@ loop-asked-init c =
     record {
       added = keys_added terms (Any ∷ []) [] c.add_known.new.numbers.items c.order_law.ensures
           (c.in_ok-add_known.ensures
-          ∙ ap (λ (xs : List ℕ). xs ++ option_to_list c.number.result) c.new-numbers.ensures.items
+          ∙ ap (λ (xs : List ℕ). xs ++ option_to_list c.number.result) c.in_ok-numbers.ensures.items
           ∙ ap (λ (o : Option ℕ). option_to_list o) c.number.ensures
           ∙ sym (append-nil (option_to_list (number_of terms Any))));
       fields = c.in_ok-fields.ensures.items;
